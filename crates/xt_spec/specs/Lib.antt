@@ -1,0 +1,2 @@
+pub mod Char
+pub mod Name
