@@ -1,2 +1,5 @@
 pub mod Char
 pub mod Name
+pub mod Reference
+pub mod Tag
+pub mod Token
