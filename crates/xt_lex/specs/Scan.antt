@@ -59,6 +59,14 @@ after_number base is_digit text = named base (run is_digit text) >>= λ c. after
 unfoldable pub after_char_ref : List ℕ → Option (ℕ × List ℕ)
 after_char_ref text = maybe (after_number 10 is_decimal_digit text) (after_number 16 is_hexadecimal_digit) (after 0x78 text)
 
+abbrev pub ended : ℕ → List ℕ → Option ℕ
+ended c [] = Some c
+ended c (b ∷ bs) = None
+
+-- the Char of a character reference that is the whole text
+unfoldable pub numbered : List ℕ → Option ℕ
+numbered text = after 0x26 text >>= λ s. after 0x23 s >>= λ h. after_char_ref h >>= λ x. ended x.0 x.1
+
 -- the kind of the reference at the front, and what follows it
 unfoldable pub reference : List ℕ → Option (TokenKind × List ℕ)
 reference text = after 0x26 text >>= λ s.

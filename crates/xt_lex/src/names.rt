@@ -10,9 +10,8 @@ use crate::chars::{is_name_char, is_name_start};
 use crate::front::split_name;
 use crate::token::Span;
 
-pub fn is_name(text: &str) -> bool
-    ensures exact { IsTrue result ↔ IsName text.now }
-    ensures value { result ≡ are_name_chars (chars text.now) }
+fn has_name_chars(text: &str) -> bool
+    ensures { result ≡ are_name_chars (chars text.now) }
 {
     let mut chars = text.chars();
     match chars.next() {
@@ -21,12 +20,34 @@ pub fn is_name(text: &str) -> bool
     }
 }
 
+fn has_ncname_chars(text: &str) -> bool
+    ensures { result ≡ are_ncname_chars (chars text.now) }
+{
+    has_name_chars(text) && text.chars().all(|c| c != ':')
+}
+
+fn has_qname_parts(text: &str) -> bool
+    ensures { result ≡ qname text.now }
+{
+    match text.split_once(':') {
+        Some((prefix, local)) => has_ncname_chars(prefix) && has_ncname_chars(local),
+        None => has_ncname_chars(text),
+    }
+}
+
+pub fn is_name(text: &str) -> bool
+    ensures exact { IsTrue result ↔ IsName text.now }
+    ensures value { result ≡ are_name_chars (chars text.now) }
+{
+    has_name_chars(text)
+}
+
 /// Whether it is a Name without a colon.
 pub fn is_ncname(text: &str) -> bool
     ensures exact { IsTrue result ↔ IsNCName text.now }
     ensures value { result ≡ are_ncname_chars (chars text.now) }
 {
-    is_name(text) && text.chars().all(|c| c != ':')
+    has_ncname_chars(text)
 }
 
 /// Whether it is an NCName, or two with a colon between.
@@ -34,10 +55,7 @@ pub fn is_qname(text: &str) -> bool
     ensures exact { IsTrue result ↔ IsQName text.now }
     ensures value { result ≡ qname text.now }
 {
-    match text.split_once(':') {
-        Some((prefix, local)) => is_ncname(prefix) && is_ncname(local),
-        None => is_ncname(text),
-    }
+    has_qname_parts(text)
 }
 
 /// The QName that begins at this place, and behind which nothing stands that may stand in a name.

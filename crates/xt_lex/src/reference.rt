@@ -4,7 +4,7 @@ ghost use Rattle.std.specs.Prelude.{◌≡◌, ◌<◌, ◌≤◌, ◌+◌, ◌*
 ghost use Rattle.std.specs.List.{prefix_len};
 ghost use Rattle.xt_spec.specs.Reference as spec;
 ghost use Rattle.xt_spec.specs.Reference.{is_decimal_digit, is_hexadecimal_digit, number_behind, StandsFor};
-ghost use Rattle.xt_lex.specs.Scan.{run, behind, named, after_number, after_char_ref, reference};
+ghost use Rattle.xt_lex.specs.Scan.{run, behind, named, after_number, after_char_ref, numbered, reference};
 ghost use Rattle.xt_lex.specs.Kinds.{kind_of};
 
 use crate::chars::is_char;
@@ -42,7 +42,8 @@ fn digit_value(b: u8) -> u32
 
 /// The number that the digits spell in the base, or `PAST_CHARS` for a greater one.
 fn number(base: u32, digits: &[u8]) -> u32
-    requires { base ≤ 16 }
+    requires some { 0 < base }
+    requires small { base ≤ 16 }
     ensures { result ≡ min (number_behind base 0 digits.now) 0x11_0000 }
 {
     let mut n = 0;
@@ -54,7 +55,8 @@ fn number(base: u32, digits: &[u8]) -> u32
 
 /// The Char whose number the digits spell in the base.
 fn named(base: u32, digits: &str) -> Option<char>
-    requires { base ≤ 16 }
+    requires some { 0 < base }
+    requires small { base ≤ 16 }
     ensures { result ≡ named base digits.now }
 {
     let c = char::from_u32(number(base, digits.as_bytes()))?;
@@ -139,14 +141,15 @@ pub(crate) fn reference(text: &str) -> Option<(Kind, &str)>
     }
 }
 
-/// The character of a character reference.
-fn numbered_char(reference: &str) -> Option<char> {
-    let rest = after('&', reference)?;
+/// The Char of a character reference that is the whole text.
+#[tactic(auto, unfolding(crate::specs::Scan::numbered))]
+fn numbered_char(text: &str) -> Option<char>
+    ensures { result ≡ numbered text.now }
+{
+    let rest = after('&', text)?;
     let rest = after('#', rest)?;
-    match after_char_ref(rest)? {
-        (c, "") => Some(c),
-        _ => None,
-    }
+    let (c, rest) = after_char_ref(rest)?;
+    if rest.is_empty() { Some(c) } else { None }
 }
 
 /// The character that the whole text, a reference, stands for: `&#38;`, `&#x26;` and `&amp;` stand for `&`.
