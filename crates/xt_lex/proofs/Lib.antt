@@ -2,6 +2,8 @@ pub mod Runs
 pub mod NameLemmas
 pub mod Utf8
 pub mod Numbers
+pub mod Spelling
 pub mod StepLemmas
+pub mod References
 pub mod Many
 pub mod DataLemmas

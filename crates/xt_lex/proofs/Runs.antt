@@ -3,7 +3,7 @@ use Rattle.std.proofs.Common.{◌≡◌, ◌≢◌, ℕ, ◌+◌, ◌-◌, ◌<�
 use Rattle.std.proofs.lemmas.Bool.{cases_lt, or_parts, not_from_true, not_from_false}
 use Rattle.std.specs.Option.{unwrap_or}
 use Rattle.memchr.specs.Find.{IsFirstByte, is_byte}
-use Rattle.std.proofs.lemmas.Str.{IsCharBoundary-before_ascii, IsCharBoundary-after_ascii, IsCharBoundary-end}
+use Rattle.std.proofs.lemmas.Str.{IsCharBoundary-before_ascii, IsCharBoundary-after_ascii, IsCharBoundary-end, IsCharBoundary-start}
 use Rattle.std.proofs.lemmas.List.Sums.{prefix_len_passes, prefix_len_stops, prefix_len-le-length, prefix_len_is}
 use Rattle.std.proofs.lemmas.Bool.Decides.{nat_tests}
 use Rattle.std.specs.List.{prefix_len}
@@ -11,6 +11,7 @@ use Rattle.std.specs.Str.{IsUtf8, IsCharBoundary}
 use Rattle.std.specs.Option.{MatchOption, option_copied}
 use denote.Ref.{Bor}
 use Rattle.xt_spec.specs.Char.{is_space}
+use Rattle.xt_spec.specs.Reference.{is_decimal_digit, is_hexadecimal_digit}
 use Rattle.xt_lex.specs.NameTest.{is_name_byte}
 use Rattle.xt_lex.specs.Scan.{run, behind, after}
 
@@ -49,6 +50,19 @@ boundary_behind p s u ascii n is some =
     let last : n - 1 < prefix_len p s = omega arith in
     let e : n - 1 + 1 ≡ n = omega arith in
     rw (← e) (IsCharBoundary-after_ascii s (n - 1) u (omega arith) (ascii _ (prefix_len_passes p s (n - 1) 0 last)))
+
+pub boundary_behind_or_start : (p : ℕ → Bool) (s : List ℕ) → IsUtf8 s → ((b : ℕ) → p b ≡ true → b < 128) → (n : ℕ) → n ≡ prefix_len p s → IsCharBoundary s n
+boundary_behind_or_start p s u ascii n is =
+    elim (cases_lt 0 n) [
+      | inl some ↦ boundary_behind p s u ascii n is some
+      | inr none ↦ let e : n ≡ 0 = omega arith in rw e (IsCharBoundary-start s u)
+    ]
+
+pub decimal_ascii : (b : ℕ) → is_decimal_digit b ≡ true → b < 128
+decimal_ascii b h = grind (arith, nat_tests)
+
+pub hexadecimal_ascii : (b : ℕ) → is_hexadecimal_digit b ≡ true → b < 128
+hexadecimal_ascii b h = grind (arith, nat_tests)
 
 pub after_is : (c : ℕ) (s : List ℕ) (r : Option (Bor (List ℕ))) → MatchOption r ((rest : List ℕ) → s ≢ c ∷ rest) (λ x. s ≡ c ∷ x.now) → option_copied r ≡ after c s
 after_is c [] None h = refl

@@ -9,9 +9,10 @@ use Rattle.xt_spec.specs.Char.{is_space}
 use Rattle.xt_spec.specs.Name.{are_ncname_chars, IsNCName, IsQName}
 use Rattle.xt_lex.specs.NameTest.{is_name_byte, qname}
 use Rattle.xt_spec.specs.Tag.{IsBlank}
-use Rattle.xt_lex.specs.Scan.{◌>>=◌, run, behind, after, after_qname}
+use Rattle.std.specs.Str.{chars}
+use Rattle.xt_lex.specs.Scan.{◌>>=◌, run, behind, after, after_qname, after_ncname}
 use Rattle.xt_lex.proofs.Runs.{run_is, boundary_at_stop, stop_ascii}
-use Rattle.xt_lex.proofs.NameLemmas.{qname_from_test, test_from_qname, qname_bytes}
+use Rattle.xt_lex.proofs.NameLemmas.{qname_from_test, test_from_qname, qname_bytes, ncname_from_test, test_from_ncname, ncname_passes}
 
 pub bind_some : {A B : Type 0} (o : Option A) (f : A → Option B) (y : B) → (o >>= f) ≡ Some y → (x : A) × (o ≡ Some x) × (f x ≡ Some y)
 bind_some None f y h = absurd (cc)
@@ -70,6 +71,27 @@ after_qname_again name r q none all =
     let front : run is_name_byte (name ++ r) ≡ name = run_append is_name_byte name r bytes ∙ ap (λ t. name ++ t) none ∙ append-nil name in
     let back : behind is_name_byte (name ++ r) ≡ r = behind_append is_name_byte name r bytes ∙ all in
     rw (front, test_from_qname name q, back) refl
+
+-- a run of bytes of names is text
+pub name_run_utf8 : (s : List ℕ) → IsUtf8 s → IsUtf8 (run is_name_byte s)
+name_run_utf8 s u = subst IsUtf8 (run_is is_name_byte s) (IsUtf8-take s (prefix_len is_name_byte s) u (boundary_at_stop is_name_byte s stop_ascii))
+
+pub after_ncname_takes : (s r : List ℕ) → IsUtf8 s → after_ncname s ≡ Some r → IsNCName (run is_name_byte s) × (s ≡ run is_name_byte s ++ r)
+after_ncname_takes s r u h =
+    elim (cases_Bool (are_ncname_chars (chars (run is_name_byte s)))) [
+      | inl e ↦
+          let rest : Some (behind is_name_byte s) ≡ Some r = rw e at h in
+          let same : behind is_name_byte s ≡ r = cc in
+          (ncname_from_test _ (name_run_utf8 s u) e, run_split is_name_byte s ∙ ap (λ t. run is_name_byte s ++ t) same)
+      | inr e ↦ let none : None ≡ Some r = rw e at h in absurd (cc)
+    ]
+
+pub after_ncname_again : (name r : List ℕ) → IsNCName name → run is_name_byte r ≡ [] → behind is_name_byte r ≡ r → after_ncname (name ++ r) ≡ Some r
+after_ncname_again name r q none all =
+    let bytes = ncname_passes name q in
+    let front : run is_name_byte (name ++ r) ≡ name = run_append is_name_byte name r bytes ∙ ap (λ t. name ++ t) none ∙ append-nil name in
+    let back : behind is_name_byte (name ++ r) ≡ r = behind_append is_name_byte name r bytes ∙ all in
+    rw (front, test_from_ncname name q, back) refl
 
 pub space_no_name : (b : ℕ) → is_space b ≡ true → is_name_byte b ≡ false
 space_no_name b h = grind (arith, nat_tests)

@@ -67,10 +67,17 @@ ended c (b ∷ bs) = None
 unfoldable pub numbered : List ℕ → Option ℕ
 numbered text = after 0x26 text >>= λ s. after 0x23 s >>= λ h. after_char_ref h >>= λ x. ended x.0 x.1
 
+-- behind the `&` of an entity reference
+abbrev pub entity_step : List ℕ → Option (TokenKind × List ℕ)
+entity_step text = after_ncname text >>= λ n. after 0x3B n >>= λ r. Some (entity_ref, r)
+
+-- behind the `&#` of a character reference
+abbrev pub number_step : List ℕ → Option (TokenKind × List ℕ)
+number_step text = after_char_ref text >>= λ x. Some (char_ref, x.1)
+
 -- the kind of the reference at the front, and what follows it
 unfoldable pub reference : List ℕ → Option (TokenKind × List ℕ)
-reference text = after 0x26 text >>= λ s.
-    maybe (after_ncname s >>= λ n. after 0x3B n >>= λ r. Some (entity_ref, r)) (λ h. after_char_ref h >>= λ x. Some (char_ref, x.1)) (after 0x23 s)
+reference text = after 0x26 text >>= λ s. maybe (entity_step s) number_step (after 0x23 s)
 
 abbrev pub is_no_ampersand : ℕ → Bool
 is_no_ampersand b = not (b == 0x26)
