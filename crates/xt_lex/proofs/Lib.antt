@@ -5,5 +5,6 @@ pub mod Numbers
 pub mod Spelling
 pub mod StepLemmas
 pub mod References
+pub mod Values
 pub mod Many
 pub mod DataLemmas
