@@ -6,5 +6,6 @@ pub mod Spelling
 pub mod StepLemmas
 pub mod References
 pub mod Values
+pub mod Attributes
 pub mod Many
 pub mod DataLemmas

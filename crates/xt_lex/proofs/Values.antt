@@ -74,6 +74,12 @@ stuck_stand (b ∷ bs) at some h =
           absurd (omega (arith, ap length passed, ap length (run_split is_no_ampersand bs), length-append (run is_no_ampersand bs) (behind is_no_ampersand bs)))
     ]
 
+pub nonempty : (s : List ℕ) (b : Bool) → b ≡ eqb (length s) 0 → b ≡ false → s ≢ []
+nonempty s b e isnt = λ is. both_ways b isnt (e ∙ ap (λ s. eqb (length s) 0) is)
+
+pub behind_shorter : (p : ℕ → Bool) (s : List ℕ) → length (behind p s) ≤ length s
+behind_shorter p s = omega (arith, ap length (run_split p s), length-append (run p s) (behind p s))
+
 pub behind_twice : (p : ℕ → Bool) (s : List ℕ) → behind p (behind p s) ≡ behind p s
 behind_twice p [] = refl
 behind_twice p (x ∷ xs) =
@@ -261,3 +267,18 @@ quoted_again p r (q, parts, is, made, split) =
     let whole : p ++ r ≡ q ∷ (concat parts ++ (q ∷ r)) = ap (λ t. t ++ r) split ∙ ap (λ t. q ∷ t) (append_assoc (concat parts) (q ∷ []) r) in
     let found = value_again q (concat parts) r (value_passes q parts made) (value_lacks q parts is made) in
     subst (λ t. (after_quoted t ≡ Some r) × (behind is_space t ≡ t)) (sym whole) (quote_begins q (concat parts ++ (q ∷ r)) r is found)
+
+value_shorter : (q : ℕ) (s r : List ℕ) → after_value q s ≡ Some r → length r ≤ length s
+value_shorter q s r h =
+    elim (cases_Bool (is_value (run (λ b. not (eqb b q)) s))) [
+      | inl f ↦ let rest : after q (behind (λ b. not (eqb b q)) s) ≡ Some r = rw f at h in omega (arith, ap length (after_takes q (behind (λ b. not (eqb b q)) s) r rest), behind_shorter (λ b. not (eqb b q)) s)
+      | inr f ↦ let none : None ≡ Some r = rw f at h in absurd (cc)
+    ]
+
+pub quoted_shorter : (s r : List ℕ) → after_quoted s ≡ Some r → length r ≤ length s
+quoted_shorter [] r h = absurd (cc)
+quoted_shorter (b ∷ bs) r h =
+    elim (cases_Bool (eqb b 34 || eqb b 39)) [
+      | inl e ↦ let rest : after_value b bs ≡ Some r = rw e at h in omega (arith, value_shorter b bs r rest)
+      | inr e ↦ let none : None ≡ Some r = rw e at h in absurd (cc)
+    ]

@@ -104,7 +104,10 @@ after_quoted [] = None
 after_quoted (b ∷ bs) = if b == 0x22 || b == 0x27 then after_value b bs else None
 
 -- what follows the white space, the name, the Eq and the value of an attribute
-unfoldable pub attribute_rests : List ℕ → Option (List ℕ × List ℕ × List ℕ × List ℕ)
+abbrev pub Rests : Type 0
+Rests = List ℕ × List ℕ × List ℕ × List ℕ
+
+unfoldable pub attribute_rests : List ℕ → Option Rests
 attribute_rests text =
     after_space text >>= λ name. after_qname name >>= λ behind_name. after 0x3D (behind is_space behind_name)
     >>= λ equals. after_quoted (behind is_space equals) >>= λ rest. Some (name, behind_name, behind is_space equals, rest)
