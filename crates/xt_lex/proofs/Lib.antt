@@ -9,3 +9,6 @@ pub mod Values
 pub mod Attributes
 pub mod Many
 pub mod DataLemmas
+pub mod Tags
+pub mod Fronts
+pub mod Texts
