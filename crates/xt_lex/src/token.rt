@@ -1,8 +1,9 @@
 //! Tokens, each a kind and a span of the text.
 
-ghost use Rattle.std.specs.Prelude.{◌≡◌, ◌<◌, ◌≤◌, ◌+◌, ℕ, ◌^◌, length, drop, IfOk, IfErr, option_map, slice_index, MatchOption};
+ghost use Rattle.std.specs.Prelude.{◌≡◌, ◌<◌, ◌≤◌, ◌+◌, ℕ, ◌^◌, length, drop, IfOk, IfErr, IsTrue, ◌↔◌, option_map, MatchOption};
 ghost use Rattle.std.specs.Str.{IsCharBoundary};
 ghost use Rattle.xt_spec.specs.Token.{NoFront, IsLongestFront};
+ghost use Rattle.xt_lex.specs.Data.{IsDelimiter};
 ghost use Rattle.xt_lex.specs.Kinds.{kind_of};
 ghost use Rattle.xt_lex.specs.Scan.{delimited};
 
@@ -45,6 +46,12 @@ pub struct LexFault {
     pub at: usize,
 }
 
+fn is_delimiter(b: u8) -> bool
+    ensures { IsTrue result ↔ IsDelimiter b }
+{
+    b == b'<' || b == b'&'
+}
+
 /// A token that begins with `<` or `&`, and what follows it.
 fn delimited(text: &str) -> Option<(Kind, &str)>
     ensures { option_map (λ x. (kind_of x.0, x.1.now)) result ≡ delimited text.now }
@@ -61,8 +68,7 @@ fn front_token(text: &str) -> Option<(Kind, usize)>
     requires { 0 < length text.now }
     ensures { MatchOption result (NoFront text.now) (λ x. IsLongestFront text.now (kind_of x.0) x.1) }
 {
-    let first = text.as_bytes()[0];
-    if first == b'<' || first == b'&' {
+    if is_delimiter(text.as_bytes()[0]) {
         return match delimited(text) {
             Some((kind, rest)) => Some((kind, text.len() - rest.len())),
             None => None,
