@@ -1,0 +1,14 @@
+pub mod Runs
+pub mod NameLemmas
+pub mod Utf8
+pub mod Numbers
+pub mod Spelling
+pub mod StepLemmas
+pub mod References
+pub mod Values
+pub mod Attributes
+pub mod Many
+pub mod DataLemmas
+pub mod Tags
+pub mod Fronts
+pub mod Texts
