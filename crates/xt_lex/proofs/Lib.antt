@@ -12,3 +12,4 @@ pub mod DataLemmas
 pub mod Tags
 pub mod Fronts
 pub mod Texts
+pub mod Places
