@@ -69,7 +69,7 @@ cut_inside s m k below past delimiter b c =
     ]
 
 -- `]]>` doesn't begin before a delimiter, or the end of the text, and end behind it
-cut_close : (s : List ℕ) (m k : ℕ) → m ≤ length s → k < m → m ≤ k + 2 → (m < length s → IsDelimiter (get_or s m 0)) → get_or s (k + 1) 0 ≡ 93 → get_or s (k + 2) 0 ≡ 62 → ⊥
+pub cut_close : (s : List ℕ) (m k : ℕ) → m ≤ length s → k < m → m ≤ k + 2 → (m < length s → IsDelimiter (get_or s m 0)) → get_or s (k + 1) 0 ≡ 93 → get_or s (k + 2) 0 ≡ 62 → ⊥
 cut_close s m k within below past delimits b c =
     elim (cases_lt m (length s)) [
       | inl inside ↦ cut_inside s m k below past (delimits inside) b c

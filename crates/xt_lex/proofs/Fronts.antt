@@ -1,5 +1,5 @@
 -- The longest token at the front of a text.
-use Rattle.std.proofs.Common.{zero, suc, ◌≡◌, ◌≢◌, ℕ, ◌+◌, ◌-◌, ◌<◌, ◌≤◌, List, [], ◌∷◌, ◌++◌, length, get_or, take, drop, true, false, eqb, ◌⊎◌, refl, ap, sym, subst, ◌∙◌, arith, inl, inr, Some, None, eq-eqb, append_assoc, encode_utf8, encode_utf8_all, codes}
+use Rattle.std.proofs.Common.{zero, suc, ◌≡◌, ◌≢◌, ℕ, ◌+◌, ◌-◌, ◌<◌, ◌≤◌, List, [], ◌∷◌, ◌++◌, length, get_or, take, drop, true, false, eqb, ◌⊎◌, refl, ap, sym, subst, ◌∙◌, arith, inl, inr, Option, Some, None, eq-eqb, append_assoc, encode_utf8, encode_utf8_all, codes}
 use Rattle.std.proofs.lemmas.Bool.{cases_lt, cases_Bool, not-false, ne_eqb, both_ways}
 use Rattle.std.proofs.lemmas.List.{length-append, length-take-le, length-drop, take-append-drop, take_at, drop_at, take-take, get_or-take, get_or_past, get_or-append-add, get_or_append_left}
 use Rattle.std.proofs.lemmas.Str.{NoCharPasses-byte, byte_from_char, encode_same, length-encode, len_utf8_bounds, length-le-encodes}
@@ -68,7 +68,7 @@ chars_begin s n f =
 abbrev pub IsRef : TokenKind → Type 0
 IsRef k = (k ≡ char_ref) ⊎ (k ≡ entity_ref)
 
-kinds : (k : TokenKind) → (k ≡ char_data) ⊎ (IsMarkup k ⊎ IsRef k)
+pub kinds : (k : TokenKind) → (k ≡ char_data) ⊎ (IsMarkup k ⊎ IsRef k)
 kinds start_tag = inr (inl (inl refl))
 kinds empty_tag = inr (inl (inr (inl refl)))
 kinds end_tag = inr (inl (inr (inr refl)))
@@ -137,7 +137,7 @@ delimited_takes (b ∷ bs) r k u h =
             let found = reference_takes (b ∷ bs) r k u (rw (e, f) at h) in
             let spelled = found_spells k found.0 found.2 in
             (found.0, found.1, spelled.0, inr spelled.1)
-        | inr f ↦ let none : None ≡ Some (k, r) = rw (e, f) at h in absurd (cc)
+        | inr f ↦ let none : ◌≡◌ {A = Option (TokenKind × List ℕ)} None (Some (k, r)) = rw (e, f) at h in absurd (cc)
       ]
     ]
 
@@ -152,11 +152,11 @@ is_delimited s k n begins f = elim (kinds k) [
   | inr other ↦ other
 ]
 
-delimited_front : (s : List ℕ) (k : TokenKind) (n : ℕ) → IsDelimiter (get_or s 0 0) → IsFront k n s → delimited s ≡ Some (k, drop n s)
+pub delimited_front : (s : List ℕ) (k : TokenKind) (n : ℕ) → IsDelimiter (get_or s 0 0) → IsFront k n s → delimited s ≡ Some (k, drop n s)
 delimited_front s k n begins f =
     subst (λ t. delimited t ≡ Some (k, drop n s)) (take-append-drop n s) (delimited_again (take n s) (drop n s) k f.spelled (is_delimited s k n begins f))
 
-stands_delimited : (k : TokenKind) (n : ℕ) (s : List ℕ) → IsDelimited k → MayStand k n s
+pub stands_delimited : (k : TokenKind) (n : ℕ) (s : List ℕ) → IsDelimited k → MayStand k n s
 stands_delimited char_data n s h = absurd (not_data char_data refl h)
 stands_delimited start_tag n s h = tt
 stands_delimited empty_tag n s h = tt
@@ -197,7 +197,7 @@ first_of [] (suc n) b x h = absurd (cc)
 first_of (y ∷ ys) (suc n) b x h = ap (λ t. get_or t 0 0) h
 
 -- other tokens begin with a delimiter
-begins_delimiter : (s : List ℕ) (k : TokenKind) (n : ℕ) → IsFront k n s → IsDelimited k → IsDelimiter (get_or s 0 0)
+pub begins_delimiter : (s : List ℕ) (k : TokenKind) (n : ℕ) → IsFront k n s → IsDelimited k → IsDelimiter (get_or s 0 0)
 begins_delimiter s k n f d =
     let first = delimited_begins k (take n s) f.spelled d in
     subst IsDelimiter (sym (first_of s n first.0 first.1 first.2)) first.3

@@ -13,3 +13,6 @@ pub mod Tags
 pub mod Fronts
 pub mod Texts
 pub mod Places
+pub mod Longest
+pub mod Unique
+pub mod Theorems

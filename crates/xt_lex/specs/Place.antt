@@ -2,6 +2,7 @@
 --
 --   Follows         what may follow character data that ends: the end, `<` or `&`
 --   EndsName        what may follow a name that ends: the end, or a byte that may not stand in a name
+--   EndsTag         what may follow the white space at the end of a tag: `>` or `/`
 --   IsNameAt        a QName stands from one place to another, and ends there
 --   IsAttributeAt   an attribute stands at a place, and its spans are where its parts stand
 use Rattle.std.specs.Prelude.{◌≡◌, ℕ, ◌+◌, Bool, false, List, [], ◌∷◌, ◌++◌, ◌⊎◌, length, drop}
@@ -17,6 +18,10 @@ Follows (b ∷ bs) = (b ≡ 0x3C) ⊎ (b ≡ 0x26)
 abbrev pub EndsName : List ℕ → Type 0
 EndsName [] = Unit {0}
 EndsName (b ∷ bs) = is_name_byte b ≡ false
+
+abbrev pub EndsTag : List ℕ → Type 0
+EndsTag [] = ⊥
+EndsTag (b ∷ bs) = (b ≡ 0x3E) ⊎ (b ≡ 0x2F)
 
 pub record IsNameAt (text : List ℕ) (from to : ℕ) : Type 0 where
   pub name : List ℕ

@@ -1,8 +1,8 @@
 //! Attributes of a tag.
 
-ghost use Rattle.std.specs.Prelude.{not, ◌==◌, ◌≡◌, ◌<◌, ◌≤◌, ◌+◌, ◌-◌, ◌^◌, ◌++◌, ℕ, List, length, drop, option_map, MatchOption, IfSome};
+ghost use Rattle.std.specs.Prelude.{not, ◌==◌, ◌≡◌, ◌<◌, ◌≤◌, ◌+◌, ◌-◌, ◌^◌, ◌++◌, ℕ, List, length, drop, option_map, IfSome};
 ghost use Rattle.std.specs.List.{prefix_len, list_all};
-ghost use Rattle.std.specs.Option.{option_copied};
+ghost use Rattle.std.specs.Option.{option_copied, IfNone};
 ghost use Rattle.std.specs.Str.{chars, IsCharBoundary};
 ghost use Rattle.xt_lex.specs.Scan.{behind, run, is_value, is_attr_char, references_stand, after_value, after_quoted, attribute_rests, attribute, is_no_ampersand};
 ghost use Rattle.xt_lex.specs.Place.{IsAttributeAt, NoAttributeAt};
@@ -157,7 +157,7 @@ pub fn next_attribute(text: &str, at: usize) -> Option<AttrSrc>
     ensures cut { IfSome result (λ s. IsCharBoundary text.now s.whole.to) }
     ensures name_cut { IfSome result (λ s. IsCharBoundary text.now s.name.from × IsCharBoundary text.now s.name.to) }
     ensures value_cut { IfSome result (λ s. IsCharBoundary text.now s.value.from × IsCharBoundary text.now s.value.to) }
-    ensures none { MatchOption result (NoAttributeAt text.now at) (λ _. Unit {0}) }
+    ensures none { IfNone result (NoAttributeAt text.now at) }
 {
     let text = &text[at..];
     match attribute_rests(text) {

@@ -1,6 +1,7 @@
 //! Names, and the tests of them.
 
-ghost use Rattle.std.specs.Prelude.{◌≡◌, ◌++◌, ◌<◌, ◌≤◌, ◌+◌, ◌^◌, ℕ, List, length, drop, take, IsTrue, ◌↔◌, MatchOption, IfSome};
+ghost use Rattle.std.specs.Prelude.{◌≡◌, ◌++◌, ◌<◌, ◌≤◌, ◌+◌, ◌^◌, ℕ, List, length, drop, take, IsTrue, ◌↔◌, IfSome};
+ghost use Rattle.std.specs.Option.{IfNone};
 ghost use Rattle.std.specs.Str.{chars, IsCharBoundary};
 ghost use Rattle.xt_spec.specs.Name.{IsName, IsNCName, IsQName, are_name_chars, are_ncname_chars};
 ghost use Rattle.xt_lex.specs.NameTest.{qname};
@@ -68,7 +69,7 @@ pub fn name_at(text: &str, at: usize) -> Option<Span>
     ensures only { IfSome result (λ s. IsNameAt text.now at s.to) }
     ensures on { IfSome result (λ s. (at < s.to) × (s.to ≤ length text.now)) }
     ensures cut { IfSome result (λ s. IsCharBoundary text.now s.to) }
-    ensures none { MatchOption result (NoNameAt text.now at) (λ _. Unit {0}) }
+    ensures none { IfNone result (NoNameAt text.now at) }
 {
     let (name, _) = split_name(&text[at..]);
     if is_qname(name) {
