@@ -1,0 +1,5 @@
+pub mod Run
+pub mod Progress
+pub mod Steps
+pub mod References
+pub mod PlainTest

@@ -1,0 +1,70 @@
+-- What a reader's state means in the bytes of its file: the state of a run, and where its marks have to stand.
+--
+--   state_of   the state
+--   Gives      a step of the run is what a call answered
+--   all_marks  the tags and spans of all that was read, in document order
+use Rattle.std.specs.Prelude.{◌≡◌, ◌≤◌, ◌⊎◌, ℕ, List, [], ◌∷◌, ◌++◌, map, reverse, Option, Some, None, option_map, Result, Ok, Err, Bool, true, not, ◌&&◌, bytes_eq}
+use Rattle.std.specs.List.{list_any}
+use Rattle.xt_lex.specs.declared.token.Span.{Span}
+use Rattle.xt_lex.specs.declared.attribute.AttrSrc.{AttrSrc}
+use Rattle.xt_tree.specs.Meaning.{at_span, item_of}
+use Rattle.xt_tree.specs.Places.{Mark, tag_mark, span_mark, tail_marks, marks_of}
+use Rattle.xt_read.specs.Run.{OpenElement, State}
+use Rattle.xt_read.specs.declared.reader.Frame.{Frame}
+use Rattle.xt_read.specs.declared.reader.Reader.{Reader}
+use Rattle.xt_read.specs.declared.unread.Unread.{Unread}
+use Rattle.xt_read.specs.declared.unread.Unread.TheVariants.{NotPlain, NoMemory}
+
+abbrev pub element_of : List ℕ → Frame → OpenElement
+element_of bytes frame = record { open_tag = at_span bytes frame.head.span; name = at_span bytes frame.head.name; before = map (item_of bytes) frame.before }
+
+abbrev pub state_of : List ℕ → Reader → State
+state_of bytes reader = record {
+  opened = reverse (map (element_of bytes) reader.opened.items);
+  items = map (item_of bytes) reader.items;
+  text = option_map (at_span bytes) reader.text;
+  came = reader.came;
+}
+
+-- the names of the attributes
+abbrev pub names_at : List ℕ → List AttrSrc → List (List ℕ)
+names_at bytes attrs = map (λ a. at_span bytes a.name) attrs
+
+-- no two of the attributes have one name: `are_distinct` of their names
+abbrev pub are_apart : List ℕ → List AttrSrc → Bool
+are_apart bytes [] = true
+are_apart bytes (a ∷ others) = not (list_any (λ other. bytes_eq (at_span bytes a.name) (at_span bytes other.name)) others) && are_apart bytes others
+
+-- a step gave this state, or there is none, unless memory ran out
+abbrev pub Gives : Option State → Result (Unit {0}) Unread → State → Type 0
+Gives step (Ok _) new = step ≡ Some new
+Gives step (Err NotPlain) new = step ≡ None
+Gives step (Err NoMemory) new = Unit {0}
+
+-- the open elements' marks, the outermost first, each behind those of the items before it
+abbrev pub frame_marks : List Frame → List Mark
+frame_marks [] = []
+frame_marks (frame ∷ frames) = marks_of frame.before ++ tag_mark frame.head ∷ frame_marks frames
+
+-- the marks of all that was read but for the text item that may go on
+abbrev pub settled_marks : Reader → List Mark
+settled_marks reader = frame_marks reader.opened.items ++ marks_of reader.items
+
+-- the marks of all that was read
+abbrev pub all_marks : Reader → List Mark
+all_marks reader = settled_marks reader ++ tail_marks reader.text
+
+-- the text item ends where the span begins
+abbrev pub Joins : Option Span → Span → Type 0
+Joins None span = span.from ≤ span.to
+Joins (Some text) span = (text.from ≤ text.to) × (text.to ≡ span.from) × (span.from ≤ span.to)
+
+-- the text item with the span behind it
+abbrev pub joined_span : Option Span → Span → Span
+joined_span None span = span
+joined_span (Some text) span = record { from = text.from; to = span.to }
+
+-- the span stands behind all that was read, as a mark of its own or at the end of the text item
+abbrev pub AddsText : Reader → Span → Reader → Type 0
+AddsText old span new = (all_marks new ≡ all_marks old ++ span_mark span ∷ [])
+    ⊎ (all_marks new ≡ settled_marks old ++ span_mark (joined_span old.text span) ∷ [])
