@@ -8,6 +8,7 @@ pub mod References
 pub mod Values
 pub mod Attributes
 pub mod Many
+pub mod Sound
 pub mod DataLemmas
 pub mod Tags
 pub mod Fronts
