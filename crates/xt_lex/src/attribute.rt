@@ -56,11 +56,15 @@ fn references_stand(text: &str) -> bool
     true
 }
 
-/// A fast test, which most values pass.
+/// A fast test, which most values pass. It has no early end, so that many bytes are tested at a time.
 fn are_attr_bytes(bytes: &[u8]) -> bool
     ensures { result ≡ list_all is_attr_byte bytes.now }
 {
-    bytes.iter().all(|b| is_sound_byte(*b) && *b != b'<')
+    let mut sound = true;
+    for b in bytes {
+        sound &= is_sound_byte(*b) & (*b != b'<');
+    }
+    sound
 }
 
 fn has_attr_chars(text: &str) -> bool

@@ -52,7 +52,7 @@ pub(crate) fn is_name_byte(b: u8) -> bool
 pub(crate) fn is_sound_byte(b: u8) -> bool
     ensures { result ≡ fast.is_sound_byte b }
 {
-    (0x20 <= b && b != 0xEF) || matches!(b, b'\t' | b'\n' | b'\r')
+    (0x20 <= b) & (b != 0xEF) | (b == b'\t') | (b == b'\n') | (b == b'\r')
 }
 
 pub(crate) fn is_space(b: u8) -> bool

@@ -8,11 +8,15 @@ ghost use Rattle.xt_lex.specs.Data.{AreFirstChars, IsFirstDelimiter, IsFirstClos
 use crate::chars::{is_char, is_sound_byte};
 use memchr::{memchr2, memmem};
 
-/// A fast test, which most text passes.
+/// A fast test, which most text passes. It has no early end, so that many bytes are tested at a time.
 fn are_sound_bytes(bytes: &[u8]) -> bool
     ensures { result ≡ list_all is_sound_byte bytes.now }
 {
-    bytes.iter().all(|b| is_sound_byte(*b))
+    let mut sound = true;
+    for b in bytes {
+        sound &= is_sound_byte(*b);
+    }
+    sound
 }
 
 /// How many bytes at the front are Chars.
