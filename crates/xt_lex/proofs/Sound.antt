@@ -1,15 +1,15 @@
 -- Where the fast tests of bytes pass, the exact ones of characters do.
-use Rattle.std.proofs.Common.{◌≡◌, ℕ, ◌<◌, ◌≤◌, List, [], ◌∷◌, ◌++◌, length, take, Bool, true, false, not, eqb, ltb, ◌||◌, ◌⊎◌, refl, ap, sym, subst, ◌∙◌, arith, inl, inr, eqb-true, encode_utf8, encode_utf8_all, le_refl}
+use Rattle.std.proofs.Common.{◌≡◌, ℕ, ◌<◌, ◌≤◌, List, [], ◌∷◌, ◌++◌, length, Bool, true, false, eqb, ltb, ◌⊎◌, refl, ap, sym, subst, ◌∙◌, arith, inl, inr, eqb-true, encode_utf8, encode_utf8_all, le_refl}
 use Rattle.std.proofs.lemmas.Bool.{cases_Bool, cases_lt, and_parts, and_from, both_ways, or_left, or_right, or_cases, not_from_true, not_from_false}
 use Rattle.std.proofs.lemmas.Bool.Decides.{nat_tests}
 use Rattle.std.proofs.lemmas.List.{take_all}
 use Rattle.std.proofs.lemmas.List.Folds.{list_all-append}
 use Rattle.std.proofs.lemmas.Str.{encode_ascii, chars-IsAscii, chars-encodes}
 use Rattle.std.specs.List.{list_all}
-use Rattle.std.specs.Str.{IsUtf8, IsAscii, NoCharPasses, NonePass, chars}
+use Rattle.std.specs.Str.{IsUtf8, NoCharPasses, NonePass, chars}
 use lib.Utf8.{scalars, scalar, encode}
 use Rattle.xt_spec.specs.Char.{is_within, is_char, is_name_char, is_name_start_char, is_not_colon}
-use Rattle.xt_spec.specs.Name.{are_name_chars, are_ncname_chars, IsNCName}
+use Rattle.xt_spec.specs.Name.{are_ncname_chars}
 use Rattle.xt_lex.specs.Data.{is_no_char, AreFirstChars}
 use Rattle.xt_lex.specs.Fast.{is_sound_byte, is_attr_byte, is_plain_start, is_plain_byte, is_plain_name}
 use Rattle.xt_lex.specs.NameTest.{qname}

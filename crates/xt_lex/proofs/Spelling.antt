@@ -1,13 +1,12 @@
 -- Texts whose characters, or bytes, pass a test.
-use Rattle.std.proofs.Common.{◌≡◌, ◌≢◌, ℕ, ◌<◌, List, [], ◌∷◌, ◌++◌, length, get_or, Bool, true, false, not, eqb, ltb, ltb-true, ◌&&◌, refl, ap, sym, ◌∙◌, arith, inl, inr, encode_utf8, encode_utf8_all, append_assoc, append-nil, eq-eqb}
-use Rattle.std.proofs.lemmas.Bool.{cases_Bool, cases_lt, and_parts, and_from, both_ways, ne_eqb, not_from_false}
+use Rattle.std.proofs.Common.{◌≡◌, ℕ, ◌<◌, List, [], ◌∷◌, ◌++◌, length, get_or, Bool, true, false, not, eqb, ltb, ltb-true, refl, ap, sym, ◌∙◌, arith, inl, inr, encode_utf8, encode_utf8_all, append_assoc, append-nil}
+use Rattle.std.proofs.lemmas.Bool.{cases_Bool, and_parts, and_from, both_ways, not_from_false}
 use Rattle.std.proofs.lemmas.Bool.Decides.{nat_tests}
 use Rattle.std.proofs.lemmas.List.Folds.{list_all-append}
 use Rattle.std.proofs.lemmas.List.Recursion.{and_from_places}
 use Rattle.std.proofs.lemmas.Str.{encode_ascii, NoCharPasses-byte, cons_from_encodes}
 use Rattle.std.specs.List.{list_all}
-use Rattle.std.specs.Str.{IsUtf8, NonePass}
-use lib.Utf8.{scalars, scalar}
+use Rattle.std.specs.Str.{NonePass}
 use Rattle.xt_spec.specs.Name.{IsSpeltBy}
 
 pub list_all_weaker : (p q : ℕ → Bool) → ((b : ℕ) → p b ≡ true → q b ≡ true) → (xs : List ℕ) → list_all p xs ≡ true → list_all q xs ≡ true

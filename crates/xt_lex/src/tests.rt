@@ -1,7 +1,8 @@
 //! Tables of cases: what each call answers at a text, by XML's own rules and beside the contracts.
 
 use crate::{
-    Kind, NotUtf8, is_char, is_name, is_ncname, is_qname, name_at, next_attribute, next_token, referenced_char, text_of,
+    Kind, NotUtf8, is_char, is_name, is_ncname, is_qname, name_at, next_attribute, next_token,
+    referenced_char, text_of,
 };
 
 #[test]
@@ -24,9 +25,15 @@ fn names_are_those_of_the_standards(rt: HostRuntime) {
         ("·", false, false, false),
         ("a b", false, false, false),
     ] {
-        assert_eq!(rt; (is_name(text), is_ncname(text), is_qname(text)), (name, ncname, qname), "at {text}");
+        assert_eq!(rt;
+            (is_name(text), is_ncname(text), is_qname(text)),
+            (name, ncname, qname),
+            "at {text}"
+        );
     }
-    assert!(rt; is_char('\t') && is_char('\u{10ffff}') && !is_char('\u{fffe}') && !is_char('\u{0}'));
+    assert!(rt;
+        is_char('\t') && is_char('\u{10ffff}') && !is_char('\u{fffe}') && !is_char('\u{0}')
+    );
 }
 
 /// The kind and the end of the token at the front.
@@ -88,8 +95,11 @@ fn attributes_stand_where_their_spans_say(rt: HostRuntime) {
     let text = "<p\n n = 'é' m=\"\"/>";
     if text.is_char_boundary(1) && text.is_char_boundary(2) && text.len() == 20 {
         assert!(rt; name_at(text, 1).is_some_and(|s| (s.from, s.to) == (1, 2)));
-        assert!(rt; next_attribute(text, 2).is_some_and(|a| (a.whole.from, a.whole.to) == (2, 12)
-            && (a.name.from, a.name.to) == (4, 5) && (a.value.from, a.value.to) == (8, 12)));
+        assert!(rt;
+            next_attribute(text, 2).is_some_and(|a| (a.whole.from, a.whole.to) == (2, 12)
+                && (a.name.from, a.name.to) == (4, 5)
+                && (a.value.from, a.value.to) == (8, 12))
+        );
         assert!(rt; next_attribute(text, 1).is_none());
     }
 }
