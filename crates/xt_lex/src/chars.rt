@@ -1,3 +1,5 @@
+//! Characters, and the bytes that stand for them.
+
 ghost use Rattle.std.specs.Prelude.{◌≡◌};
 ghost use Rattle.xt_spec.specs.Char as spec;
 ghost use Rattle.xt_lex.specs.Fast as fast;

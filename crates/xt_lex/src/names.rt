@@ -66,6 +66,7 @@ fn has_qname_parts(text: &str) -> bool
     }
 }
 
+/// Whether it is a Name, colons counted.
 pub fn is_name(text: &str) -> bool
     ensures exact { IsTrue result ↔ IsName text.now }
     ensures value { result ≡ are_name_chars (chars text.now) }
