@@ -17,3 +17,4 @@ pub mod Places
 pub mod Longest
 pub mod Unique
 pub mod Theorems
+pub mod Examples

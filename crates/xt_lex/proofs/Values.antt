@@ -112,6 +112,12 @@ reference_of k t (inr f) = inr f.1
 abbrev IsMadeOf : ℕ → List ℕ → Type 0
 IsMadeOf q s = (parts : List (List ℕ)) × AllByRecursion (IsValuePart q) parts × (s ≡ concat parts)
 
+first_is : (c b : ℕ) (rest s : List ℕ) → encode_utf8 c ++ rest ≡ s → encode_utf8 c ≡ b ∷ [] → s ≡ b ∷ rest
+first_is c b rest s e one = sym e ∙ ap (λ t. t ++ rest) one
+
+joined_on : (s t r x : List ℕ) → s ≡ t ++ r → r ≡ x → s ≡ t ++ x
+joined_on s t r x a b = a ∙ ap (λ y. t ++ y) b
+
 rest_shorter : (c : ℕ) (rest s : List ℕ) (n : ℕ) → encode_utf8 c ++ rest ≡ s → length s ≤ suc n → length rest ≤ n
 rest_shorter c rest s n e le = let wide = len_utf8_bounds c in omega (arith, ap length e, length-append (encode_utf8 c) rest, length-encode c)
 
@@ -127,7 +133,7 @@ value_parts q (suc n) (c ∷ cs) s small le e attr lacks stand =
       | inl is ↦
           let same : c ≡ 38 = eqb-true c 38 is in
           let one : encode_utf8 c ≡ 38 ∷ [] = encode_ascii c (omega arith) ∙ ap (λ c. c ∷ []) same in
-          let split : s ≡ 38 ∷ encode_utf8_all cs = sym e ∙ ap (λ t. t ++ encode_utf8_all cs) one in
+          let split : s ≡ 38 ∷ encode_utf8_all cs = first_is c 38 (encode_utf8_all cs) s e one in
           let x = found_some (reference s) (stand_front s (encode_utf8_all cs) split stand) in
           let found = reference_takes s x.0.1 x.0.0 (c ∷ cs, (attr_scalars (c ∷ cs) attr, e)) x.1 in
           let spelt = found_spelt x.0.0 found.0 found.2 in
@@ -138,7 +144,7 @@ value_parts q (suc n) (c ∷ cs) s small le e attr lacks stand =
           let stand_rest = stand_behind found.0 x.0.1 (subst (λ l. references_stand l ≡ true) found.1 stand) in
           let smaller : length x.0.1 ≤ n = omega (arith, ap length found.1, length-append found.0 x.0.1, ap length inner.1) in
           let more = value_parts q n rest.0 x.0.1 small smaller rest.2 attr_rest lacks_rest stand_rest in
-          (found.0 ∷ more.0, (inr (reference_of x.0.0 found.0 found.2), more.1), found.1 ∙ ap (λ y. found.0 ++ y) more.2)
+          (found.0 ∷ more.0, (inr (reference_of x.0.0 found.0 found.2), more.1), joined_on s found.0 x.0.1 (concat more.0) found.1 more.2)
       | inr isnt ↦
           let rest = encode_utf8_all cs in
           let both = and_parts (is_attr_char c) (list_all is_attr_char cs) attr in
@@ -147,7 +153,7 @@ value_parts q (suc n) (c ∷ cs) s small le e attr lacks stand =
           let smaller : length rest ≤ n = rest_shorter c rest s n e le in
           let more = value_parts q n cs rest small smaller refl both.1 (list_all_behind (λ b. not (eqb b q)) (encode_utf8 c) rest here) (stand_behind (encode_utf8 c) rest stand_here) in
           let passes = and_from _ _ (and_from _ _ both.0 (not_from_false _ isnt)) (not_quote q c rest small here) in
-          (encode_utf8 c ∷ more.0, (inl (c, passes, refl), more.1), sym e ∙ ap (λ y. encode_utf8 c ++ y) more.2)
+          (encode_utf8 c ∷ more.0, (inl (c, passes, refl), more.1), joined_on s (encode_utf8 c) rest (concat more.0) (sym e) more.2)
     ]
 
 found_of : (t : List ℕ) → IsReference t → (k : TokenKind) × IsFound k t
