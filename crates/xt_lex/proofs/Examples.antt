@@ -1,11 +1,10 @@
 -- The definitions computed on right and on wrong cases.
-use Rattle.std.proofs.Common.{◌≡◌, ℕ, List, [], ◌∷◌, ◌++◌, Bool, true, false, refl, inl, inr, codes, arith}
-use Rattle.xt_spec.specs.Tag.{Attribute, attribute_text}
-use Rattle.xt_lex.specs.Fast.{is_plain_name, is_sound_byte}
+use Rattle.std.proofs.Common.{◌≡◌, true, false, refl, inl, inr, codes, arith}
+use Rattle.xt_spec.specs.Tag.{Attribute}
+use Rattle.xt_lex.specs.Fast.{is_plain_name}
 use Rattle.xt_lex.specs.NameTest.{is_name_byte}
 use Rattle.xt_lex.specs.Place.{Follows, EndsName, EndsTag, AreSpansOf}
-use Rattle.xt_lex.specs.Scan.{run, behind, after_space, ended}
-use Rattle.xt_lex.specs.declared.attribute.AttrSrc.{AttrSrc}
+use Rattle.xt_lex.specs.Scan.{run, behind}
 
 -- behind a name may stand `=`, and no letter
 equals_ends_a_name : EndsName (codes "='v'")

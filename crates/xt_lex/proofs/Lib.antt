@@ -16,5 +16,6 @@ pub mod Texts
 pub mod Places
 pub mod Longest
 pub mod Unique
+pub mod Spelled
 pub mod Theorems
 pub mod Examples

@@ -129,7 +129,7 @@ plain_all (b ∷ bs) h =
     let first : is_plain_start b ≡ true = both.0 in
     and_from _ _ (rw first refl) both.1
 
-plain_ascii : (text : List ℕ) → is_plain_name text ≡ true → list_all (λ b. ltb b 128) text ≡ true
+pub plain_ascii : (text : List ℕ) → is_plain_name text ≡ true → list_all (λ b. ltb b 128) text ≡ true
 plain_ascii text h = list_all_weaker is_plain_byte (λ b. ltb b 128) plain_small text (plain_all text h)
 
 plain_chars : (text : List ℕ) → is_plain_name text ≡ true → are_ncname_chars text ≡ true

@@ -29,7 +29,7 @@ encode_joined (c ∷ cs) ds = ap (λ t. encode_utf8 c ++ t) (encode_joined cs ds
 pub spelt_joined : (p : ℕ → Bool) (x y : List ℕ) → IsSpeltBy (λ cs. list_all p cs) x → IsSpeltBy (λ cs. list_all p cs) y → IsSpeltBy (λ cs. list_all p cs) (x ++ y)
 spelt_joined p x y (cs, e, h) (ds, f, k) = (cs ++ ds, encode_joined cs ds ∙ ap (λ t. t ++ encode_utf8_all ds) e ∙ ap (λ t. x ++ t) f, list_all_joined p cs ds h k)
 
-encode_small : (xs : List ℕ) → list_all (λ b. ltb b 128) xs ≡ true → encode_utf8_all xs ≡ xs
+pub encode_small : (xs : List ℕ) → list_all (λ b. ltb b 128) xs ≡ true → encode_utf8_all xs ≡ xs
 encode_small [] h = refl
 encode_small (x ∷ xs) h =
     let both = and_parts _ _ h in

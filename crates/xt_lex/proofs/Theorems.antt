@@ -9,8 +9,11 @@
 --   tag_name_ends        the name of a tag ends as a name may; end_tag_name_ends is the same of an end-tag
 --   tag_unique           a tag has its parts in one way
 --   stands_unique        a reference stands for at most one character
+--   stands_spells        what stands for a character spells a token; predefined_entity: an entity reference, if by its name
+--   space_spells         white space is character data
 --   names_no_entity      a character reference is no entity reference
 pub use Rattle.xt_lex.proofs.Fronts.{front_some}
 pub use Rattle.xt_lex.proofs.Longest.{token_longest}
+pub use Rattle.xt_lex.proofs.Spelled.{predefined_entity, stands_spells, space_spells}
 pub use Rattle.xt_lex.proofs.Texts.{spells_utf8, front_boundary}
 pub use Rattle.xt_lex.proofs.Unique.{attribute_unique, no_attribute_at_end, name_unique, tag_name_ends, end_tag_name_ends, tag_unique, stands_unique, names_no_entity}
