@@ -3,3 +3,8 @@ pub mod Name
 pub mod Reference
 pub mod Tag
 pub mod Token
+pub mod Tree
+pub mod Text
+pub mod Reading
+pub mod Value
+pub mod Plain
