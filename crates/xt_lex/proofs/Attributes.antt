@@ -1,16 +1,16 @@
 -- Attributes: what the step finds is spelled so, and what is spelled so it finds.
-use Rattle.std.proofs.Common.{◌≡◌, ◌≢◌, ℕ, ◌<◌, ◌≤◌, List, [], ◌∷◌, ◌++◌, length, Bool, true, false, eqb, refl, ap, sym, subst, ◌∙◌, arith, inl, inr, Option, Some, None, IsTrue, codes, append_assoc, map}
+use Rattle.std.proofs.Common.{◌≡◌, ◌≢◌, ℕ, ◌<◌, ◌≤◌, List, [], ◌∷◌, ◌++◌, length, true, false, refl, ap, sym, subst, ◌∙◌, arith, inl, inr, Some, None, codes, append_assoc, map}
 use Rattle.std.proofs.lemmas.Bool.{both_ways, cases_Bool, and_parts, and_from}
 use Rattle.std.proofs.lemmas.List.{length-append}
-use Rattle.std.specs.List.{list_all, AllByRecursion, concat}
-use Rattle.std.specs.Str.{IsUtf8, chars}
+use Rattle.std.specs.List.{AllByRecursion, concat}
+use Rattle.std.specs.Str.{IsUtf8}
 use Rattle.std.proofs.lemmas.Str.{chars-nil, IsUtf8-append, IsUtf8-nil}
 use lib.Utf8.{scalars}
 use Rattle.xt_spec.specs.Char.{is_space}
 use Rattle.xt_spec.specs.Name.{IsQName}
-use Rattle.xt_spec.specs.Tag.{IsBlank, IsSpace, IsEq, IsAttValue, Attribute, attribute_text, IsAttribute}
+use Rattle.xt_spec.specs.Tag.{IsBlank, IsSpace, Attribute, attribute_text, IsAttribute}
 use Rattle.xt_lex.specs.NameTest.{is_name_byte, qname}
-use Rattle.xt_lex.specs.Scan.{◌>>=◌, run, behind, after, after_qname, after_space, after_quoted, Rests, attribute_rests, attribute}
+use Rattle.xt_lex.specs.Scan.{run, behind, after, after_qname, after_space, after_quoted, Rests, attribute_rests, attribute}
 use Rattle.xt_lex.proofs.Many.{Shrinks}
 use Rattle.xt_lex.proofs.NameLemmas.{qname_nonempty, qname_bytes}
 use Rattle.xt_lex.proofs.Spelling.{strip}

@@ -1,16 +1,15 @@
 -- The longest token at the front of a text.
-use Rattle.std.proofs.Common.{zero, suc, ◌≡◌, ◌≢◌, ℕ, ◌+◌, ◌-◌, ◌<◌, ◌≤◌, List, [], ◌∷◌, ◌++◌, length, get_or, take, drop, true, false, eqb, ◌⊎◌, refl, ap, sym, subst, ◌∙◌, arith, inl, inr, Option, Some, None, eq-eqb, append_assoc, encode_utf8, encode_utf8_all, codes}
+use Rattle.std.proofs.Common.{zero, suc, ◌≡◌, ◌≢◌, ℕ, ◌+◌, ◌-◌, ◌<◌, ◌≤◌, List, [], ◌∷◌, ◌++◌, length, get_or, take, drop, true, false, eqb, ◌⊎◌, refl, ap, sym, subst, ◌∙◌, arith, inl, inr, Option, Some, None, eq-eqb, append_assoc, encode_utf8, encode_utf8_all}
 use Rattle.std.proofs.lemmas.Bool.{cases_lt, cases_Bool, not-false, ne_eqb, both_ways}
-use Rattle.std.proofs.lemmas.List.{length-append, length-take-le, length-drop, take-append-drop, take_at, drop_at, take-take, get_or-take, get_or_past, get_or-append-add, get_or_append_left}
+use Rattle.std.proofs.lemmas.List.{length-append, length-take-le, length-drop, take-append-drop, take_at, take-take, get_or-take, get_or_past, get_or-append-add}
 use Rattle.std.proofs.lemmas.Str.{NoCharPasses-byte, byte_from_char, encode_same, length-encode, len_utf8_bounds, length-le-encodes}
-use Rattle.std.specs.List.{AllByRecursion, concat}
+use Rattle.std.specs.List.{AllByRecursion}
 use Rattle.std.specs.Str.{IsUtf8, NonePass}
 use Rattle.xt_spec.specs.Char.{is_char}
 use Rattle.xt_spec.specs.Token.{TokenKind, start_tag, empty_tag, end_tag, char_data, char_ref, entity_ref, IsPlain, Spells, BeginsClose, HoldsNoClose, MayStand, IsFront, NoFront, IsLongestFront}
 use Rattle.xt_lex.specs.Data.{IsDelimiter, IsFirstData, is_no_char}
-use Rattle.xt_lex.specs.Place.{Follows}
 use Rattle.xt_lex.specs.Scan.{markup, reference, delimited}
-use Rattle.xt_lex.proofs.DataLemmas.{drop_longer, close_reads, no_delimiter}
+use Rattle.xt_lex.proofs.DataLemmas.{drop_longer, close_reads}
 use Rattle.xt_lex.proofs.References.{IsFound, pair_parts, reference_takes, reference_again, found_inner}
 use Rattle.xt_lex.proofs.Spelling.{strip}
 use Rattle.xt_lex.proofs.Tags.{IsMarkup, no_markup, no_markup_ref, markup_takes, markup_again}

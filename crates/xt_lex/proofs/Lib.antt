@@ -8,6 +8,7 @@ pub mod References
 pub mod Values
 pub mod Attributes
 pub mod Many
+pub mod Sound
 pub mod DataLemmas
 pub mod Tags
 pub mod Fronts
@@ -15,4 +16,6 @@ pub mod Texts
 pub mod Places
 pub mod Longest
 pub mod Unique
+pub mod Spelled
 pub mod Theorems
+pub mod Examples

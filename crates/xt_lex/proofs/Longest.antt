@@ -1,11 +1,10 @@
 -- A text that spells a token is the longest one at the front of itself and what follows it.
-use Rattle.std.proofs.Common.{◌≡◌, ℕ, ◌+◌, ◌<◌, ◌≤◌, List, [], ◌∷◌, ◌++◌, length, get_or, take, drop, refl, ap, sym, subst, ◌∙◌, arith, inl, inr, Some}
+use Rattle.std.proofs.Common.{◌≡◌, ℕ, ◌+◌, ◌<◌, List, [], ◌∷◌, ◌++◌, length, get_or, take, drop, refl, ap, sym, subst, ◌∙◌, arith, inl, inr}
 use Rattle.std.proofs.lemmas.Bool.{cases_lt}
-use Rattle.std.proofs.lemmas.List.{length-append, length-drop, take_at, drop_at, get_or-take, get_or_at, get_or_append_left, length-take-le}
-use Rattle.xt_spec.specs.Token.{TokenKind, char_data, Spells, BeginsClose, HoldsNoClose, NoCloseBelow, MayStand, IsFront, IsLongestFront}
+use Rattle.std.proofs.lemmas.List.{length-append, length-drop, take_at, get_or-take, get_or_at, get_or_append_left, length-take-le}
+use Rattle.xt_spec.specs.Token.{TokenKind, char_data, Spells, HoldsNoClose, NoCloseBelow, IsFront, IsLongestFront}
 use Rattle.xt_lex.specs.Data.{IsDelimiter}
 use Rattle.xt_lex.specs.Place.{Follows}
-use Rattle.xt_lex.specs.Scan.{delimited}
 use Rattle.xt_lex.proofs.DataLemmas.{close_reads, close_from_reads, cut_close}
 use Rattle.xt_lex.proofs.Fronts.{IsDelimited, kinds, delimited_begins, delimited_again, delimited_front, stands_delimited, begins_delimiter, chars_begin, plain_bytes}
 use Rattle.xt_lex.proofs.References.{pair_parts}

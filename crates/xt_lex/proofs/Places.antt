@@ -1,19 +1,18 @@
 -- Names and attributes at a place of a text.
-use Rattle.std.proofs.Common.{◌≡◌, ℕ, ◌+◌, ◌-◌, ◌<◌, ◌≤◌, List, [], ◌∷◌, ◌++◌, length, drop, Bool, true, false, refl, ap, sym, subst, ◌∙◌, arith, inl, inr, Option, Some, None, append_assoc, append-nil}
+use Rattle.std.proofs.Common.{◌≡◌, ℕ, ◌+◌, ◌-◌, ◌<◌, ◌≤◌, List, [], ◌∷◌, ◌++◌, length, drop, false, refl, ap, sym, subst, ◌∙◌, arith, inl, inr, None, append_assoc, append-nil}
 use Rattle.std.proofs.lemmas.Bool.{cases_Bool}
 use Rattle.std.proofs.lemmas.List.{length-append, length-drop}
 use Rattle.std.proofs.lemmas.Str.{IsCharBoundary-at_seam, IsCharBoundary-from_rest}
-use Rattle.std.specs.List.{list_all}
 use Rattle.std.specs.Str.{IsUtf8, IsCharBoundary}
 use Rattle.xt_spec.specs.Name.{IsQName}
-use Rattle.xt_spec.specs.Tag.{Attribute, attribute_text, IsAttribute, IsSpace}
+use Rattle.xt_spec.specs.Tag.{Attribute, attribute_text, IsSpace}
 use Rattle.xt_lex.specs.NameTest.{is_name_byte}
-use Rattle.xt_lex.specs.Place.{EndsName, IsNameAt, NoNameAt, AreSpansOf, IsAttributeAt, NoAttributeAt}
+use Rattle.xt_lex.specs.Place.{EndsName, IsNameAt, NoNameAt, IsAttributeAt, NoAttributeAt}
 use Rattle.xt_lex.specs.Scan.{run, behind, Rests, attribute_rests}
 use Rattle.xt_lex.specs.declared.attribute.AttrSrc.{AttrSrc}
-use Rattle.xt_lex.proofs.Attributes.{AttributeFront, utf8_rest, rests_again, rests_of, front_whole}
+use Rattle.xt_lex.proofs.Attributes.{AttributeFront, utf8_rest, rests_again, front_whole}
 use Rattle.xt_lex.proofs.NameLemmas.{qname_bytes, qname_nonempty}
-use Rattle.xt_lex.proofs.StepLemmas.{run_split, run_append, behind_append}
+use Rattle.xt_lex.proofs.StepLemmas.{run_split, run_append}
 use Rattle.xt_lex.proofs.Utf8.{qname_utf8}
 
 behind_ends : (s : List ℕ) → EndsName (behind is_name_byte s)

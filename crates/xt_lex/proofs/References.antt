@@ -1,17 +1,16 @@
 -- References: what the steps find is spelled so, and what is spelled so they find.
-use Rattle.std.proofs.Common.{◌≡◌, ◌≢◌, ℕ, ◌<◌, List, [], ◌∷◌, ◌++◌, length, Bool, true, false, not, eqb, ltb, ◌||◌, ◌⊎◌, refl, ap, sym, subst, ◌∙◌, arith, inl, inr, Option, Some, None, eqb-true, codes, append_assoc, append-nil}
-use Rattle.std.proofs.lemmas.Bool.{cases_Bool, both_ways, and_parts, and_from, or_left}
+use Rattle.std.proofs.Common.{◌≡◌, ◌≢◌, ℕ, List, [], ◌∷◌, ◌++◌, Bool, true, false, eqb, ltb, ◌||◌, ◌⊎◌, refl, ap, sym, subst, ◌∙◌, arith, inl, inr, Option, Some, None, eqb-true, codes, append_assoc, append-nil}
+use Rattle.std.proofs.lemmas.Bool.{cases_Bool, both_ways, and_parts}
 use Rattle.std.proofs.lemmas.Bool.Decides.{nat_tests}
 use Rattle.std.specs.List.{list_all}
 use Rattle.std.specs.Str.{IsUtf8}
 use Rattle.std.specs.Option.{MatchOption}
-use lib.Utf8.{scalars}
 use Rattle.xt_spec.specs.Char.{is_char, is_name_char}
 use Rattle.xt_spec.specs.Name.{IsNCName, IsSpeltBy}
 use Rattle.xt_spec.specs.Reference.{is_decimal_digit, is_hexadecimal_digit, number_behind, AreDigits, NamesChar, IsEntityRef, StandsFor}
 use Rattle.xt_spec.specs.Token.{TokenKind, char_ref, entity_ref}
 use Rattle.xt_lex.specs.NameTest.{is_name_byte}
-use Rattle.xt_lex.specs.Scan.{◌>>=◌, maybe, run, behind, after, after_ncname, named, after_number, after_char_ref, entity_step, number_step, ended, numbered, reference, is_attr_char}
+use Rattle.xt_lex.specs.Scan.{maybe, run, behind, after, after_ncname, named, after_number, after_char_ref, entity_step, number_step, ended, numbered, reference, is_attr_char}
 use Rattle.xt_lex.proofs.NameLemmas.{ncname_passes, ncname_nonempty, name_all}
 use Rattle.xt_lex.proofs.Spelling.{list_all_weaker, list_all_joined, spelt_joined, spelt_ascii}
 use Rattle.xt_lex.proofs.StepLemmas.{bind_some, run_split, run_passes, run_append, behind_append, after_takes, after_ncname_takes, after_ncname_again, utf8_behind}

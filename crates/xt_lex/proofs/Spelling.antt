@@ -1,13 +1,12 @@
 -- Texts whose characters, or bytes, pass a test.
-use Rattle.std.proofs.Common.{◌≡◌, ◌≢◌, ℕ, ◌<◌, List, [], ◌∷◌, ◌++◌, length, get_or, Bool, true, false, not, eqb, ltb, ltb-true, ◌&&◌, refl, ap, sym, ◌∙◌, arith, inl, inr, encode_utf8, encode_utf8_all, append_assoc, append-nil, eq-eqb}
-use Rattle.std.proofs.lemmas.Bool.{cases_Bool, cases_lt, and_parts, and_from, both_ways, ne_eqb, not_from_false}
+use Rattle.std.proofs.Common.{◌≡◌, ℕ, ◌<◌, List, [], ◌∷◌, ◌++◌, length, get_or, Bool, true, false, not, eqb, ltb, ltb-true, refl, ap, sym, ◌∙◌, arith, inl, inr, encode_utf8, encode_utf8_all, append_assoc, append-nil}
+use Rattle.std.proofs.lemmas.Bool.{cases_Bool, and_parts, and_from, both_ways, not_from_false}
 use Rattle.std.proofs.lemmas.Bool.Decides.{nat_tests}
 use Rattle.std.proofs.lemmas.List.Folds.{list_all-append}
 use Rattle.std.proofs.lemmas.List.Recursion.{and_from_places}
 use Rattle.std.proofs.lemmas.Str.{encode_ascii, NoCharPasses-byte, cons_from_encodes}
 use Rattle.std.specs.List.{list_all}
-use Rattle.std.specs.Str.{IsUtf8, NonePass}
-use lib.Utf8.{scalars, scalar}
+use Rattle.std.specs.Str.{NonePass}
 use Rattle.xt_spec.specs.Name.{IsSpeltBy}
 
 pub list_all_weaker : (p q : ℕ → Bool) → ((b : ℕ) → p b ≡ true → q b ≡ true) → (xs : List ℕ) → list_all p xs ≡ true → list_all q xs ≡ true
@@ -30,7 +29,7 @@ encode_joined (c ∷ cs) ds = ap (λ t. encode_utf8 c ++ t) (encode_joined cs ds
 pub spelt_joined : (p : ℕ → Bool) (x y : List ℕ) → IsSpeltBy (λ cs. list_all p cs) x → IsSpeltBy (λ cs. list_all p cs) y → IsSpeltBy (λ cs. list_all p cs) (x ++ y)
 spelt_joined p x y (cs, e, h) (ds, f, k) = (cs ++ ds, encode_joined cs ds ∙ ap (λ t. t ++ encode_utf8_all ds) e ∙ ap (λ t. x ++ t) f, list_all_joined p cs ds h k)
 
-encode_small : (xs : List ℕ) → list_all (λ b. ltb b 128) xs ≡ true → encode_utf8_all xs ≡ xs
+pub encode_small : (xs : List ℕ) → list_all (λ b. ltb b 128) xs ≡ true → encode_utf8_all xs ≡ xs
 encode_small [] h = refl
 encode_small (x ∷ xs) h =
     let both = and_parts _ _ h in

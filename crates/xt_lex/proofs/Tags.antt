@@ -1,11 +1,11 @@
 -- Tags: what the steps find is spelled so, and what is spelled so they find.
-use Rattle.std.proofs.Common.{◌≡◌, ◌≢◌, ℕ, List, [], ◌∷◌, ◌++◌, true, false, eqb, ◌⊎◌, refl, ap, sym, subst, ◌∙◌, arith, inl, inr, Option, Some, None, eqb-true, codes, append_assoc, map}
+use Rattle.std.proofs.Common.{◌≡◌, ℕ, List, [], ◌∷◌, ◌++◌, true, false, eqb, ◌⊎◌, refl, ap, sym, subst, ◌∙◌, arith, inl, inr, Option, Some, None, eqb-true, codes, append_assoc, map}
 use Rattle.std.proofs.lemmas.Bool.{cases_Bool, and_parts}
 use Rattle.std.specs.List.{AllByRecursion, concat}
 use Rattle.std.specs.Str.{IsUtf8}
 use Rattle.xt_spec.specs.Char.{is_space}
 use Rattle.xt_spec.specs.Name.{IsQName}
-use Rattle.xt_spec.specs.Tag.{IsBlank, Attribute, attribute_text, IsAttribute, Tag, tag_text, IsTag}
+use Rattle.xt_spec.specs.Tag.{IsBlank, Attribute, attribute_text, IsAttribute, Tag, IsTag}
 use Rattle.xt_spec.specs.Token.{TokenKind, start_tag, empty_tag, end_tag, char_data, char_ref, entity_ref, Spells}
 use Rattle.xt_lex.specs.NameTest.{is_name_byte}
 use Rattle.xt_lex.specs.Scan.{◌>>=◌, run, behind, after, after_qname, after_space, attribute, many, open_end, open_tag, closing_tag, maybe, markup}

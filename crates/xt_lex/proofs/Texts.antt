@@ -1,12 +1,12 @@
 -- What is spelled is text, so a text may be cut behind a token.
-use Rattle.std.proofs.Common.{◌≡◌, ℕ, List, [], ◌∷◌, ◌++◌, take, true, refl, ap, sym, codes, inl, inr, map, ⊎_elim}
+use Rattle.std.proofs.Common.{◌≡◌, ℕ, List, [], ◌∷◌, ◌++◌, take, true, refl, sym, codes, inl, inr, map}
 use Rattle.std.proofs.lemmas.Bool.{and_from}
-use Rattle.std.proofs.lemmas.Str.{IsUtf8-append, IsUtf8-from_ascii, IsCharBoundary-from_take}
+use Rattle.std.proofs.lemmas.Str.{IsUtf8-append, IsCharBoundary-from_take}
 use Rattle.std.specs.List.{AllByRecursion, concat}
 use Rattle.std.specs.Str.{IsUtf8, IsCharBoundary}
 use lib.Utf8.{scalars}
 use Rattle.xt_spec.specs.Name.{IsQName}
-use Rattle.xt_spec.specs.Tag.{IsBlank, Attribute, attribute_text, IsAttribute, Tag, tag_text, IsTag}
+use Rattle.xt_spec.specs.Tag.{IsBlank, attribute_text, Tag, tag_text, IsTag}
 use Rattle.xt_spec.specs.Token.{TokenKind, start_tag, empty_tag, end_tag, char_data, char_ref, entity_ref, IsPlain, Spells, IsFront}
 use Rattle.xt_lex.proofs.Attributes.{parts_utf8}
 use Rattle.xt_lex.proofs.References.{IsFound, found_spelt}

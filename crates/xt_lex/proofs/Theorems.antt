@@ -1,14 +1,19 @@
 -- What the crates above cite of this one: laws of tokens, attributes, names and references, on lists of bytes alone.
 --
 --   token_longest        a text that spells a token is the longest one at the front of itself and what may follow it
---   spells_utf8          a token is UTF-8
+--   spells_utf8          a token is UTF-8, so a text may be cut behind one: front_boundary
+--   front_some           a token takes at least one byte
 --   attribute_unique     a text begins with at most one attribute
 --   no_attribute_at_end  none begins where the tag ends
 --   name_unique          a text begins with at most one QName that ends there
 --   tag_name_ends        the name of a tag ends as a name may; end_tag_name_ends is the same of an end-tag
 --   tag_unique           a tag has its parts in one way
 --   stands_unique        a reference stands for at most one character
+--   stands_spells        what stands for a character spells a token; predefined_entity: an entity reference, if by its name
+--   space_spells         white space is character data
 --   names_no_entity      a character reference is no entity reference
+pub use Rattle.xt_lex.proofs.Fronts.{front_some}
 pub use Rattle.xt_lex.proofs.Longest.{token_longest}
-pub use Rattle.xt_lex.proofs.Texts.{spells_utf8}
+pub use Rattle.xt_lex.proofs.Spelled.{predefined_entity, stands_spells, space_spells}
+pub use Rattle.xt_lex.proofs.Texts.{spells_utf8, front_boundary}
 pub use Rattle.xt_lex.proofs.Unique.{attribute_unique, no_attribute_at_end, name_unique, tag_name_ends, end_tag_name_ends, tag_unique, stands_unique, names_no_entity}

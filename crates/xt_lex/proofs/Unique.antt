@@ -1,17 +1,16 @@
 -- A text has its parts in one way.
-use Rattle.std.proofs.Common.{◌≡◌, ◌≢◌, ℕ, ◌<◌, List, [], ◌∷◌, ◌++◌, length, Bool, true, false, ◌⊎◌, refl, ap, sym, subst, ◌∙◌, arith, inl, inr, Option, Some, None, codes, append_assoc, append-nil, map, cond, eqb, get_or}
-use Rattle.std.proofs.lemmas.Bool.{cases_Bool, and_parts}
-use Rattle.std.proofs.lemmas.Bool.Decides.{nat_tests}
+use Rattle.std.proofs.Common.{◌≡◌, ℕ, ◌<◌, List, [], ◌∷◌, ◌++◌, false, refl, ap, sym, subst, ◌∙◌, arith, inl, inr, Some, None, codes, append_assoc, append-nil, cond, eqb, get_or}
+use Rattle.std.proofs.lemmas.Bool.{and_parts}
 use Rattle.std.proofs.lemmas.List.{append_cancel_left, append_cancel_right}
-use Rattle.std.specs.List.{AllByRecursion, concat}
+use Rattle.std.specs.List.{AllByRecursion}
 use Rattle.xt_spec.specs.Char.{is_space}
 use Rattle.xt_spec.specs.Name.{IsQName}
 use Rattle.xt_spec.specs.Reference.{NamesChar, IsEntityRef, IsPredefined, StandsFor}
 use Rattle.xt_spec.specs.Tag.{IsBlank, Attribute, attribute_text, IsAttribute, Tag, tag_text, IsTag}
-use Rattle.xt_spec.specs.Token.{TokenKind, char_ref, entity_ref}
+use Rattle.xt_spec.specs.Token.{char_ref, entity_ref}
 use Rattle.xt_lex.specs.NameTest.{is_name_byte}
 use Rattle.xt_lex.specs.Place.{EndsName, EndsTag}
-use Rattle.xt_lex.specs.Scan.{run, behind, after_space, Rests, attribute_rests, reference, numbered}
+use Rattle.xt_lex.specs.Scan.{run, behind, after_space, Rests, attribute_rests}
 use Rattle.xt_lex.proofs.Attributes.{rests_of, rests_again, rests_stop, attribute_begins}
 use Rattle.xt_lex.proofs.Places.{name_run}
 use Rattle.xt_lex.proofs.References.{numbered_again, reference_again, char_ref_again, pair_parts}

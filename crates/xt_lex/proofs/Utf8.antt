@@ -8,7 +8,7 @@ use Rattle.std.specs.List.{list_all}
 use Rattle.std.specs.Str.{IsUtf8, IsAscii}
 use lib.Utf8.{scalar}
 use Rattle.xt_spec.specs.Char.{is_char}
-use Rattle.xt_spec.specs.Name.{IsName, IsNCName, IsQName}
+use Rattle.xt_spec.specs.Name.{IsNCName, IsQName}
 use Rattle.xt_spec.specs.Tag.{IsBlank}
 use Rattle.xt_lex.proofs.Runs.{space_ascii}
 use Rattle.xt_lex.proofs.NameLemmas.{all_scalars, name_all}

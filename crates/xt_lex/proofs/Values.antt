@@ -1,5 +1,5 @@
 -- Values between quotes: what passes the test is made of characters and references, and what is so made passes.
-use Rattle.std.proofs.Common.{zero, suc, ◌≡◌, ◌≢◌, ℕ, ◌<◌, ◌≤◌, List, [], ◌∷◌, ◌++◌, length, Bool, true, false, not, eqb, ◌&&◌, ◌||◌, ◌⊎◌, refl, ap, sym, subst, ◌∙◌, arith, inl, inr, Option, Some, None, eqb-true, eq-eqb, ⊎_elim, encode_utf8, encode_utf8_all, codes, append_assoc, append-nil}
+use Rattle.std.proofs.Common.{zero, suc, ◌≡◌, ◌≢◌, ℕ, ◌<◌, ◌≤◌, List, [], ◌∷◌, ◌++◌, length, Bool, true, false, not, eqb, ◌||◌, refl, ap, sym, subst, ◌∙◌, arith, inl, inr, Option, Some, None, eqb-true, eq-eqb, ⊎_elim, encode_utf8, encode_utf8_all, codes, append_assoc, append-nil}
 use Rattle.std.proofs.lemmas.Bool.{cases_Bool, and_parts, and_from, both_ways, or_cases, not-true, not-false, not_from_false}
 use Rattle.std.proofs.lemmas.Bool.Decides.{nat_tests}
 use Rattle.std.proofs.lemmas.List.{length-append}
@@ -7,7 +7,7 @@ use Rattle.std.proofs.lemmas.Str.{encode_ascii, length-encode, len_utf8_bounds, 
 use Rattle.std.specs.List.{list_all, prefix_len, AllByRecursion, concat}
 use Rattle.std.specs.Str.{IsUtf8, chars}
 use lib.Utf8.{scalars}
-use Rattle.xt_spec.specs.Char.{is_char, is_space}
+use Rattle.xt_spec.specs.Char.{is_space}
 use Rattle.xt_spec.specs.Name.{IsSpeltBy}
 use Rattle.xt_spec.specs.Tag.{IsReference, is_value_char, IsValuePart, IsQuote, IsAttValue}
 use Rattle.xt_spec.specs.Token.{TokenKind, char_ref, entity_ref}
@@ -112,6 +112,18 @@ reference_of k t (inr f) = inr f.1
 abbrev IsMadeOf : ℕ → List ℕ → Type 0
 IsMadeOf q s = (parts : List (List ℕ)) × AllByRecursion (IsValuePart q) parts × (s ≡ concat parts)
 
+first_is : (c b : ℕ) (rest s : List ℕ) → encode_utf8 c ++ rest ≡ s → encode_utf8 c ≡ b ∷ [] → s ≡ b ∷ rest
+first_is c b rest s e one = sym e ∙ ap (λ t. t ++ rest) one
+
+joined_on : (s t r x : List ℕ) → s ≡ t ++ r → r ≡ x → s ≡ t ++ x
+joined_on s t r x a b = a ∙ ap (λ y. t ++ y) b
+
+rest_shorter : (c : ℕ) (rest s : List ℕ) (n : ℕ) → encode_utf8 c ++ rest ≡ s → length s ≤ suc n → length rest ≤ n
+rest_shorter c rest s n e le = let wide = len_utf8_bounds c in omega (arith, ap length e, length-append (encode_utf8 c) rest, length-encode c)
+
+fronts_meet : (cs ts s t r : List ℕ) → encode_utf8_all cs ≡ s → s ≡ t ++ r → encode_utf8_all ts ≡ t → encode_utf8_all cs ≡ encode_utf8_all ts ++ r
+fronts_meet cs ts s t r a b c = rw c (a ∙ b)
+
 -- the parts of a value whose characters and references pass
 value_parts : (q n : ℕ) (cs s : List ℕ) → q < 128 → length s ≤ n → encode_utf8_all cs ≡ s → list_all is_attr_char cs ≡ true → list_all (λ b. not (eqb b q)) s ≡ true → references_stand s ≡ true → IsMadeOf q s
 value_parts q n [] s small le e attr lacks stand = ([], tt, sym e)
@@ -121,28 +133,27 @@ value_parts q (suc n) (c ∷ cs) s small le e attr lacks stand =
       | inl is ↦
           let same : c ≡ 38 = eqb-true c 38 is in
           let one : encode_utf8 c ≡ 38 ∷ [] = encode_ascii c (omega arith) ∙ ap (λ c. c ∷ []) same in
-          let split : s ≡ 38 ∷ encode_utf8_all cs = sym e ∙ ap (λ t. t ++ encode_utf8_all cs) one in
+          let split : s ≡ 38 ∷ encode_utf8_all cs = first_is c 38 (encode_utf8_all cs) s e one in
           let x = found_some (reference s) (stand_front s (encode_utf8_all cs) split stand) in
           let found = reference_takes s x.0.1 x.0.0 (c ∷ cs, (attr_scalars (c ∷ cs) attr, e)) x.1 in
           let spelt = found_spelt x.0.0 found.0 found.2 in
           let inner = found_inner x.0.0 found.0 found.2 in
-          let rest = strip (c ∷ cs) spelt.0 x.0.1 (e ∙ found.1 ∙ ap (λ y. y ++ x.0.1) (sym spelt.1)) in
+          let rest = strip (c ∷ cs) spelt.0 x.0.1 (fronts_meet (c ∷ cs) spelt.0 s found.0 x.0.1 e found.1 spelt.1) in
           let attr_rest = list_all_behind is_attr_char spelt.0 rest.0 (subst (λ l. list_all is_attr_char l ≡ true) rest.1 attr) in
           let lacks_rest = list_all_behind (λ b. not (eqb b q)) found.0 x.0.1 (subst (λ l. list_all (λ b. not (eqb b q)) l ≡ true) found.1 lacks) in
           let stand_rest = stand_behind found.0 x.0.1 (subst (λ l. references_stand l ≡ true) found.1 stand) in
           let smaller : length x.0.1 ≤ n = omega (arith, ap length found.1, length-append found.0 x.0.1, ap length inner.1) in
           let more = value_parts q n rest.0 x.0.1 small smaller rest.2 attr_rest lacks_rest stand_rest in
-          (found.0 ∷ more.0, (inr (reference_of x.0.0 found.0 found.2), more.1), found.1 ∙ ap (λ y. found.0 ++ y) more.2)
+          (found.0 ∷ more.0, (inr (reference_of x.0.0 found.0 found.2), more.1), joined_on s found.0 x.0.1 (concat more.0) found.1 more.2)
       | inr isnt ↦
           let rest = encode_utf8_all cs in
-          let both = and_parts _ _ attr in
+          let both = and_parts (is_attr_char c) (list_all is_attr_char cs) attr in
           let here : list_all (λ b. not (eqb b q)) (encode_utf8 c ++ rest) ≡ true = subst (λ l. list_all (λ b. not (eqb b q)) l ≡ true) (sym e) lacks in
           let stand_here : references_stand (encode_utf8 c ++ rest) ≡ true = subst (λ l. references_stand l ≡ true) (sym e) stand in
-          let wide = len_utf8_bounds c in
-          let smaller : length rest ≤ n = omega (arith, ap length e, length-append (encode_utf8 c) rest, length-encode c) in
+          let smaller : length rest ≤ n = rest_shorter c rest s n e le in
           let more = value_parts q n cs rest small smaller refl both.1 (list_all_behind (λ b. not (eqb b q)) (encode_utf8 c) rest here) (stand_behind (encode_utf8 c) rest stand_here) in
           let passes = and_from _ _ (and_from _ _ both.0 (not_from_false _ isnt)) (not_quote q c rest small here) in
-          (encode_utf8 c ∷ more.0, (inl (c, passes, refl), more.1), sym e ∙ ap (λ y. encode_utf8 c ++ y) more.2)
+          (encode_utf8 c ∷ more.0, (inl (c, passes, refl), more.1), joined_on s (encode_utf8 c) rest (concat more.0) (sym e) more.2)
     ]
 
 found_of : (t : List ℕ) → IsReference t → (k : TokenKind) × IsFound k t

@@ -1,4 +1,5 @@
 pub mod NameTest
+pub mod Fast
 pub mod Kinds
 pub mod Scan
 pub mod Data

@@ -5,7 +5,7 @@
 --   EndsTag         what may follow the white space at the end of a tag: `>` or `/`
 --   IsNameAt        a QName stands from one place to another, and ends there
 --   IsAttributeAt   an attribute stands at a place, and its spans are where its parts stand
-use Rattle.std.specs.Prelude.{◌≡◌, ℕ, ◌+◌, Bool, false, List, [], ◌∷◌, ◌++◌, ◌⊎◌, length, drop}
+use Rattle.std.specs.Prelude.{◌≡◌, ℕ, ◌+◌, false, List, [], ◌∷◌, ◌++◌, ◌⊎◌, length, drop}
 use Rattle.xt_spec.specs.Name.{IsQName}
 use Rattle.xt_spec.specs.Tag.{Attribute, attribute_text, IsAttribute}
 use Rattle.xt_lex.specs.NameTest.{is_name_byte}

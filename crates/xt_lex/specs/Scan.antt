@@ -1,5 +1,5 @@
 -- Reading from the front of a text: what each step leaves, or none. A text is the list of its bytes.
-use Rattle.std.specs.Prelude.{zero, suc, ◌||◌, ◌&&◌, ◌≡◌, ℕ, length, not, Bool, true, false, ◌==◌, List, [], ◌∷◌, Option, Some, None, if◌then◌else◌}
+use Rattle.std.specs.Prelude.{zero, suc, ◌||◌, ◌&&◌, ℕ, length, not, Bool, true, false, ◌==◌, List, [], ◌∷◌, Option, Some, None, if◌then◌else◌}
 use Rattle.std.specs.Str.{chars}
 use Rattle.std.specs.List.{list_all}
 use Rattle.xt_spec.specs.Char.{is_space, is_char}

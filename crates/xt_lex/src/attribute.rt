@@ -4,10 +4,11 @@ ghost use Rattle.std.specs.Prelude.{not, ◌==◌, ◌≡◌, ◌<◌, ◌≤◌
 ghost use Rattle.std.specs.List.{prefix_len, list_all};
 ghost use Rattle.std.specs.Option.{option_copied, IfNone};
 ghost use Rattle.std.specs.Str.{chars, IsCharBoundary};
+ghost use Rattle.xt_lex.specs.Fast.{is_attr_byte};
 ghost use Rattle.xt_lex.specs.Scan.{behind, run, is_value, is_attr_char, references_stand, after_value, after_quoted, attribute_rests, attribute, is_no_ampersand};
 ghost use Rattle.xt_lex.specs.Place.{IsAttributeAt, NoAttributeAt};
 
-use crate::chars::is_char;
+use crate::chars::{is_char, is_sound_byte};
 use crate::front::{after, after_blank, after_qname, after_space};
 use crate::reference::reference;
 use crate::token::Span;
@@ -55,11 +56,28 @@ fn references_stand(text: &str) -> bool
     true
 }
 
+/// A fast test, which most values pass. It has no early end, so that many bytes are tested at a time.
+fn are_attr_bytes(bytes: &[u8]) -> bool
+    ensures { result ≡ list_all is_attr_byte bytes.now }
+{
+    let mut sound = true;
+    for b in bytes {
+        sound &= is_sound_byte(*b) & (*b != b'<');
+    }
+    sound
+}
+
+fn has_attr_chars(text: &str) -> bool
+    ensures { result ≡ list_all is_attr_char (chars text.now) }
+{
+    text.chars().all(|c| is_char(c) && c != '<')
+}
+
 /// Whether the characters are Chars, and none is `<`.
 fn are_attr_chars(text: &str) -> bool
     ensures { result ≡ list_all is_attr_char (chars text.now) }
 {
-    text.chars().all(|c| is_char(c) && c != '<')
+    are_attr_bytes(text.as_bytes()) || has_attr_chars(text)
 }
 
 /// Whether it may stand between quotes, but for the quotes.

@@ -1,5 +1,8 @@
+//! Characters, and the bytes that stand for them.
+
 ghost use Rattle.std.specs.Prelude.{◌≡◌};
 ghost use Rattle.xt_spec.specs.Char as spec;
+ghost use Rattle.xt_lex.specs.Fast as fast;
 ghost use Rattle.xt_lex.specs.NameTest as name;
 
 /// Whether a document may hold the character.
@@ -40,10 +43,18 @@ pub(crate) fn is_name_char(c: char) -> bool
         )
 }
 
+/// Whether the byte may stand in a name: an ASCII NameChar, or any of 128 or more.
 pub(crate) fn is_name_byte(b: u8) -> bool
     ensures { result ≡ name.is_name_byte b }
 {
-    128 <= b || is_name_char(b as char)
+    matches!(b, b'a'..=b'z' | b'A'..=b'Z' | b'0'..=b'9' | b'-' | b'.' | b':' | b'_' | 128..)
+}
+
+/// Whether characters of such bytes alone are Chars: no control, and not the first byte of U+FFFE and U+FFFF.
+pub(crate) fn is_sound_byte(b: u8) -> bool
+    ensures { result ≡ fast.is_sound_byte b }
+{
+    (0x20 <= b) & (b != 0xEF) | (b == b'\t') | (b == b'\n') | (b == b'\r')
 }
 
 pub(crate) fn is_space(b: u8) -> bool

@@ -1,13 +1,36 @@
 //! Character data.
 
 ghost use Rattle.std.specs.Prelude.{◌≡◌};
+ghost use Rattle.std.specs.List.{list_all};
+ghost use Rattle.xt_lex.specs.Fast.{is_sound_byte};
 ghost use Rattle.xt_lex.specs.Data.{AreFirstChars, IsFirstDelimiter, IsFirstClose, IsFirstData};
 
-use crate::chars::is_char;
+use crate::chars::{is_char, is_sound_byte};
 use memchr::{memchr2, memmem};
+
+/// A fast test, which most text passes. It has no early end, so that many bytes are tested at a time.
+fn are_sound_bytes(bytes: &[u8]) -> bool
+    ensures { result ≡ list_all is_sound_byte bytes.now }
+{
+    let mut sound = true;
+    for b in bytes {
+        sound &= is_sound_byte(*b);
+    }
+    sound
+}
 
 /// How many bytes at the front are Chars.
 fn chars_len(text: &str) -> usize
+    ensures { AreFirstChars text.now result }
+{
+    if are_sound_bytes(text.as_bytes()) {
+        text.len()
+    } else {
+        found_chars_len(text)
+    }
+}
+
+fn found_chars_len(text: &str) -> usize
     ensures { AreFirstChars text.now result }
 {
     match text.find(|c: char| !is_char(c)) {

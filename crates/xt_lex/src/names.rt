@@ -1,15 +1,45 @@
 //! Names, and the tests of them.
 
 ghost use Rattle.std.specs.Prelude.{◌≡◌, ◌++◌, ◌<◌, ◌≤◌, ◌+◌, ◌^◌, ℕ, List, length, drop, take, IsTrue, ◌↔◌, IfSome};
+ghost use Rattle.std.specs.List.{list_all};
 ghost use Rattle.std.specs.Option.{IfNone};
 ghost use Rattle.std.specs.Str.{chars, IsCharBoundary};
 ghost use Rattle.xt_spec.specs.Name.{IsName, IsNCName, IsQName, are_name_chars, are_ncname_chars};
+ghost use Rattle.xt_lex.specs.Fast as fast;
 ghost use Rattle.xt_lex.specs.NameTest.{qname};
 ghost use Rattle.xt_lex.specs.Place.{EndsName, IsNameAt, NoNameAt};
 
 use crate::chars::{is_name_char, is_name_start};
 use crate::front::split_name;
 use crate::token::Span;
+
+fn is_plain_start(b: u8) -> bool
+    ensures { result ≡ fast.is_plain_start b }
+{
+    matches!(b, b'a'..=b'z' | b'A'..=b'Z' | b'_')
+}
+
+fn is_plain_byte(b: u8) -> bool
+    ensures { result ≡ fast.is_plain_byte b }
+{
+    is_plain_start(b) || matches!(b, b'0'..=b'9' | b'-' | b'.')
+}
+
+fn are_plain_bytes(bytes: &[u8]) -> bool
+    ensures { result ≡ list_all fast.is_plain_byte bytes.now }
+{
+    bytes.iter().all(|b| is_plain_byte(*b))
+}
+
+/// A fast test, which most names pass: an ASCII name without a colon.
+fn is_plain_name(bytes: &[u8]) -> bool
+    ensures { result ≡ fast.is_plain_name bytes.now }
+{
+    match bytes {
+        [first, rest @ ..] => is_plain_start(*first) && are_plain_bytes(rest),
+        [] => false,
+    }
+}
 
 fn has_name_chars(text: &str) -> bool
     ensures { result ≡ are_name_chars (chars text.now) }
@@ -31,11 +61,12 @@ fn has_qname_parts(text: &str) -> bool
     ensures { result ≡ qname text.now }
 {
     match text.split_once(':') {
-        Some((prefix, local)) => has_ncname_chars(prefix) && has_ncname_chars(local),
+        Some((prefix, local)) => is_ncname(prefix) && is_ncname(local),
         None => has_ncname_chars(text),
     }
 }
 
+/// Whether it is a Name, colons counted.
 pub fn is_name(text: &str) -> bool
     ensures exact { IsTrue result ↔ IsName text.now }
     ensures value { result ≡ are_name_chars (chars text.now) }
@@ -48,7 +79,7 @@ pub fn is_ncname(text: &str) -> bool
     ensures exact { IsTrue result ↔ IsNCName text.now }
     ensures value { result ≡ are_ncname_chars (chars text.now) }
 {
-    has_ncname_chars(text)
+    is_plain_name(text.as_bytes()) || has_ncname_chars(text)
 }
 
 /// Whether it is an NCName, or two with a colon between.
@@ -56,7 +87,7 @@ pub fn is_qname(text: &str) -> bool
     ensures exact { IsTrue result ↔ IsQName text.now }
     ensures value { result ≡ qname text.now }
 {
-    has_qname_parts(text)
+    is_plain_name(text.as_bytes()) || has_qname_parts(text)
 }
 
 /// The QName that begins at this place, and behind which nothing stands that may stand in a name.

@@ -72,7 +72,10 @@ fn decimal_len(bytes: &[u8]) -> usize
 fn hexadecimal_len(bytes: &[u8]) -> usize
     ensures { result ≡ prefix_len is_hexadecimal_digit bytes.now }
 {
-    bytes.iter().take_while(|b| is_hexadecimal_digit(**b)).count()
+    bytes
+        .iter()
+        .take_while(|b| is_hexadecimal_digit(**b))
+        .count()
 }
 
 fn split_decimal(text: &str) -> (&str, &str)

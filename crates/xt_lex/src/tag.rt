@@ -47,8 +47,8 @@ fn open_tag(text: &str) -> Option<(Kind, &str)>
 fn end_tag(text: &str) -> Option<&str>
     ensures { option_copied result ≡ closing_tag text.now }
 {
-    let rest = after_qname(text)?;
-    after('>', after_blank(rest))
+    let behind_name = after_qname(text)?;
+    after('>', after_blank(behind_name))
 }
 
 /// A token that begins with `<`, and what follows it.

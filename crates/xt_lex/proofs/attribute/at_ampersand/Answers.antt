@@ -1,4 +1,4 @@
-use Rattle.std.proofs.Common.{◌≡◌, eqb, not, arith, eqb-true, ap, ◌∙◌, drop}
+use Rattle.std.proofs.Common.{◌≡◌, arith, eqb-true}
 use Rattle.std.proofs.lemmas.Bool.{not-false}
 use Rattle.std.specs.List.{prefix_len}
 use Rattle.xt_lex.specs.Scan.{is_no_ampersand}

@@ -1,4 +1,4 @@
-use Rattle.std.proofs.Common.{◌≡◌, ◌+◌, ◌-◌, length, drop, arith, sym}
+use Rattle.std.proofs.Common.{◌≡◌, length, drop, arith, sym}
 use Rattle.std.proofs.lemmas.List.{length-drop}
 use Rattle.xt_lex.specs.Scan.{Rests}
 use Rattle.xt_lex.proofs.Attributes.{rests_takes}

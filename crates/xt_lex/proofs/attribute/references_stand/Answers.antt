@@ -1,4 +1,4 @@
-use Rattle.std.proofs.Common.{◌≡◌, ◌≤◌, ◌<◌, List, ℕ, length, Some, None, ap, sym, ◌∙◌, arith, not}
+use Rattle.std.proofs.Common.{◌≡◌, length, Some, None, ap, sym, ◌∙◌, arith}
 use Rattle.xt_lex.specs.Kinds.{kind_of}
 use Rattle.xt_lex.specs.Scan.{behind, is_no_ampersand, reference, references_stand}
 use Rattle.xt_lex.proofs.Values.{behind_stand, step_stand, reference_shorter, stuck_stand, behind_twice, behind_shorter, nonempty}

@@ -1,5 +1,12 @@
 use Rattle.xt_lex.proofs.NameLemmas.{qname_exact}
+use Rattle.xt_lex.proofs.Sound.{plain_qname_value}
 use Rattle.xt_lex.proofs.names.is_qname.Goals as goal
 
-pub returns-clause-exact : goal.returns-clause-exact
-returns-clause-exact c = qname_exact c.args.text.now c.has_qname_parts.result c.utf8.text c.has_qname_parts.ensures
+pub returns-then-is_plain_name-clause-exact : goal.returns-then-is_plain_name-clause-exact
+returns-then-is_plain_name-clause-exact c = qname_exact c.args.text.now c.is_plain_name.result c.utf8.text (plain_qname_value c.args.text.now c.as_bytes.result.now c.is_plain_name.result c.as_bytes.ensures.value c.is_plain_name.ensures c.if-is_plain_name.true)
+
+pub returns-then-is_plain_name-clause-value : goal.returns-then-is_plain_name-clause-value
+returns-then-is_plain_name-clause-value c = plain_qname_value c.args.text.now c.as_bytes.result.now c.is_plain_name.result c.as_bytes.ensures.value c.is_plain_name.ensures c.if-is_plain_name.true
+
+pub returns-else-is_plain_name-clause-exact : goal.returns-else-is_plain_name-clause-exact
+returns-else-is_plain_name-clause-exact c = qname_exact c.args.text.now c.has_qname_parts.result c.utf8.text c.has_qname_parts.ensures

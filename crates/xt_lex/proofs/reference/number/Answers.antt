@@ -1,4 +1,4 @@
-use Rattle.std.proofs.Common.{◌≡◌, ◌+◌, ◌*◌, min, drop, get_or, refl, ap, ◌∙◌, arith}
+use Rattle.std.proofs.Common.{◌+◌, ◌*◌, min, drop, get_or, refl, ap, ◌∙◌, arith}
 use Rattle.xt_spec.specs.Reference.{number_behind}
 use Rattle.xt_lex.proofs.Numbers.{next_digit}
 use Rattle.xt_lex.proofs.reference.number.Goals as goal

@@ -1,4 +1,4 @@
-use Rattle.std.proofs.Common.{◌≡◌, sym, ap, ◌∙◌, arith, get_or, subst}
+use Rattle.std.proofs.Common.{sym, arith, get_or, subst}
 use Rattle.std.proofs.lemmas.Bool.{both_ways}
 use Rattle.xt_lex.specs.Data.{IsDelimiter, IsFirstData}
 use Rattle.xt_lex.specs.Kinds.{kind_of}
