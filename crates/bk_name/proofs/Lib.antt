@@ -1,1 +1,10 @@
 pub mod FileNameLemmas
+pub mod UriLemmas
+pub mod EscapeLemmas
+pub mod FileUriLemmas
+pub mod BaseLemmas
+pub mod RelativeLemmas
+pub mod TextLemmas
+pub mod FilesLemmas
+pub mod ParsedFileLemmas
+pub mod LawLemmas
