@@ -6,5 +6,4 @@ pub mod BaseLemmas
 pub mod RelativeLemmas
 pub mod TextLemmas
 pub mod FilesLemmas
-pub mod ParsedFileLemmas
 pub mod LawLemmas

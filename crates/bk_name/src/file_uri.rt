@@ -1,13 +1,12 @@
 //! The URI of a file of a book, and the file that a URI names.
-ghost use Rattle.std.specs.Prelude.{◌≡◌, ◌++◌, Some, IfOk, OnOk, string_bytes};
+ghost use Rattle.std.specs.Prelude.{◌≡◌, Some, IfOk, OnOk, string_bytes};
 ghost use Rattle.bk_name.specs.Uri.{ReadsBack};
 ghost use Rattle.bk_name.specs.Base as spec;
+ghost use Rattle.bk_name.specs.Laws.{IsUriOfFile};
 
-use crate::uri::is_out_of_room;
 use crate::{BadName, Base, Name, Uri};
 use percent_encoding::{AsciiSet, NON_ALPHANUMERIC, ascii_set, percent_decode, percent_encode};
 use std::alloc::{AllocError, Global};
-use url::Url;
 
 // The bytes that the URI of a name escapes: all but ASCII letters, digits and `-._~/`.
 const NAME_ESCAPES: AsciiSet = ascii_set!(
@@ -19,12 +18,14 @@ const NAME_ESCAPES: AsciiSet = ascii_set!(
         .remove(b'/')
 );
 
-// The name as the rest of a URI, behind the text.
-fn push_escaped(text: &mut String, name: &str) -> Result<(), AllocError>
-    ensures value { OnOk result (string_bytes text.new ≡ string_bytes text.old ++ spec.escaped_name name.now) }
+// The text of the URI of a file.
+fn uri_string(alloc: Global, base: &Base, name: &Name) -> Result<String, AllocError>
+    ensures value { IfOk result (λ text. string_bytes text ≡ spec.uri_text base.now name.now) }
+    ensures keeps { OnOk result (IsUriOfFile base.now name.now (spec.uri_text base.now name.now)) }
 {
-    percent_encode(name.as_bytes(), NAME_ESCAPES).append_to(text)?;
-    Ok(())
+    let mut text = String::from_str(alloc, base.as_str())?;
+    percent_encode(name.as_str().as_bytes(), NAME_ESCAPES).append_to(&mut text)?;
+    Ok(text)
 }
 
 /// The URI of the file of this name. The one error is want of memory.
@@ -33,18 +34,8 @@ pub fn uri_of(alloc: Global, base: &Base, name: &Name) -> Result<Uri, AllocError
     ensures names { IfOk result (λ uri. spec.name_in base.now uri ≡ Some name.now) }
     ensures reads_back { IfOk result (λ uri. ReadsBack uri) }
 {
-    let mut text = String::from_str(alloc, base.as_str())?;
-    push_escaped(&mut text, name.as_str())?;
-    match Url::parse(alloc, text.as_str()) {
-        Ok(url) => Uri::from_parsed(alloc, url),
-        Err(error) => {
-            if is_out_of_room(error) {
-                Err(AllocError)
-            } else {
-                unreachable!()
-            }
-        }
-    }
+    let text = uri_string(alloc, base, name)?;
+    Uri::from_text(alloc, text.as_str())
 }
 
 fn has_tail(rest: &[u8]) -> bool

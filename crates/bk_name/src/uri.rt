@@ -42,6 +42,23 @@ impl Uri {
         })
     }
 
+    // The URI of a text that is one.
+    pub(crate) fn from_text(alloc: Global, text: &str) -> Result<Uri, AllocError>
+        requires uri { IsUri text.now }
+        ensures value { IfOk result (λ uri. uri ≡ text.now) }
+    {
+        match Url::parse(alloc, text) {
+            Ok(url) => Uri::from_parsed(alloc, url),
+            Err(error) => {
+                if is_out_of_room(error) {
+                    Err(AllocError)
+                } else {
+                    unreachable!()
+                }
+            }
+        }
+    }
+
     // The parsed URI.
     pub(crate) fn url(&self) -> &Url
         ensures value { serialize result.now ≡ self.now }
