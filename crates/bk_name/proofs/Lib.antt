@@ -7,3 +7,4 @@ pub mod RelativeLemmas
 pub mod TextLemmas
 pub mod FilesLemmas
 pub mod LawLemmas
+pub mod Examples
