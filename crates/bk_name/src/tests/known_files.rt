@@ -37,8 +37,13 @@ fn files_that_are_put_and_swapped(rt: HostRuntime) -> Result<(), Fail> {
     if let Look::Need = files.look(&a) {
         return Err("the file was put".into());
     }
-    let old = files.swap(&a, Entry::Absent);
-    assert!(rt; matches!(old, Entry::Bytes(bytes) if bytes.as_slice() == b"two".as_slice()));
+    match files.swap(&a, Entry::Absent) {
+        Entry::Bytes(old) => {
+            let old = old.into_vec();
+            assert_eq!(rt; old.as_slice(), b"two".as_slice());
+        }
+        Entry::Absent => return Err("the file was there".into()),
+    }
     assert!(rt; matches!(files.look(&a), Look::Absent));
     Ok(())
 }
