@@ -1,5 +1,5 @@
 -- The escapes of names, and percent-encoding by the set of bytes that are escaped.
-use Rattle.std.proofs.Common.{◌≡◌, ℕ, ◌<◌, true, false, not, List, [], ◌∷◌, sym, refl, ap, ◌∙◌, ⊎_elim, arith}
+use Rattle.std.proofs.Common.{◌≡◌, ℕ, ◌<◌, false, not, List, [], ◌∷◌, sym, refl, ap, ◌∙◌, ⊎_elim, arith}
 use Rattle.std.specs.Char.{is_ascii}
 use Rattle.std.specs.List.{flat_map}
 use Rattle.std.proofs.lemmas.Bool.{cond-true, cond-false, cases_Bool, agree_below_at}

@@ -6,8 +6,8 @@ use Rattle.std.proofs.Math.Utf8.{encode}
 use Rattle.percent_encoding.proofs.OnLiterals.{percent_encoding_on_literals}
 use Rattle.url.proofs.OnLiterals.{url_on_literals}
 use Rattle.bk_name.specs.FileName.{is_file_name_char, is_segment, is_file_name}
-use Rattle.bk_name.specs.Uri.{reads_back, joined}
-use Rattle.bk_name.specs.Base.{is_base, is_unescaped, escaped_name, uri_text, name_in}
+use Rattle.bk_name.specs.Uri.{reads_back, joined, without_fragment}
+use Rattle.bk_name.specs.Base.{is_base, escaped_name, uri_text, name_in}
 use Rattle.bk_name.specs.Relative.{relative_of}
 
 -- ---- names
@@ -100,3 +100,12 @@ beside = refl
 itself : relative_of (codes "file:///d/e") (codes "file:///d/e") ≡ codes "file:///d/e"
 unfolding relative_of joined url_on_literals percent_encoding_on_literals
 itself = refl
+
+no_fragment : without_fragment (codes "file:///a?q#f") ≡ codes "file:///a?q"
+unfolding without_fragment url_on_literals percent_encoding_on_literals
+no_fragment = refl
+
+-- a URI that has none stays
+no_fragment_to_drop : without_fragment (codes "file:///a?q") ≡ codes "file:///a?q"
+unfolding without_fragment url_on_literals percent_encoding_on_literals
+no_fragment_to_drop = refl

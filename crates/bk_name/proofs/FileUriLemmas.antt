@@ -1,8 +1,6 @@
 -- The URI of a file of a base is a valid, canonical URL.
-use Rattle.std.proofs.Common.{◌≡◌, ◌≢◌, ℕ, ◌+◌, ◌<◌, true, false, not, ◌&&◌, ◌||◌, ◌==◌, List, [], ◌∷◌, ◌++◌, length, take, Some, None, Ok, All, sym, refl, ap, ◌∙◌, subst, inl, ⊎_elim, append_assoc, arith, length-append, drop_at, take_at, lit<}
+use Rattle.std.proofs.Common.{◌≡◌, ◌≢◌, ℕ, ◌+◌, ◌<◌, true, false, not, ◌||◌, ◌==◌, List, [], ◌∷◌, ◌++◌, length, take, Some, None, Ok, All, sym, refl, ap, ◌∙◌, subst, inl, ⊎_elim, append_assoc, arith, length-append, drop_at, take_at, lit<}
 use Rattle.std.specs.Prelude.{codes, bytes_eq, slice_index}
-use Rattle.std.specs.Prelude.{nat_le}
-use Rattle.std.specs.Str.{is_utf8, chars}
 use Rattle.std.specs.List.{list_all, onto_first, join_with_byte}
 use Rattle.std.proofs.lemmas.Bool.{cond-true, cond-false, cases_Bool, cases_eq, ne_eqb, eq-eqb, and_parts, true≢false}
 use Rattle.std.proofs.lemmas.Bool.Decides.{nat_tests}

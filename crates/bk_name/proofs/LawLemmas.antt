@@ -1,12 +1,12 @@
 -- The laws of names and URIs.
-use Rattle.std.proofs.Common.{◌≡◌, ℕ, true, false, not, ◌&&◌, List, drop, length, Some, None, sym, refl, ap, ◌∙◌, subst, ⊎_elim}
-use Rattle.std.specs.Prelude.{Option, nat_eq}
+use Rattle.std.proofs.Common.{◌≡◌, ℕ, true, not, ◌&&◌, List, drop, length, Some, None, sym, ap, ◌∙◌, subst, ⊎_elim}
+use Rattle.std.specs.Prelude.{nat_eq}
 use Rattle.std.specs.List.{starts_with}
 use Rattle.std.proofs.lemmas.Bool.{cond-true, cond-false, cases_Bool, and_parts}
 use Rattle.percent_encoding.specs.Percent.{percent_decode}
 use Rattle.url.specs.Parts.{serialize}
 use Rattle.bk_name.specs.FileName.{is_file_name}
-use Rattle.bk_name.specs.Base.{IsBase, has_tail, uri_text, name_spelled, name_in}
+use Rattle.bk_name.specs.Base.{has_tail, uri_text, name_spelled, name_in}
 use Rattle.bk_name.specs.Laws.{IsUriOfFile, FileUrisName, FileUrisDiffer, NamedIsName}
 use Rattle.bk_name.proofs.BaseLemmas.{directory}
 use Rattle.bk_name.proofs.FileUriLemmas.{file_name, file_url, file_url-valid, file_url-canonical, serialize-file_url, ReadsBack-uri_text, name_in-uri_text}

@@ -1,6 +1,7 @@
 pub mod FileNameLemmas
 pub mod UriLemmas
 pub mod EscapeLemmas
+pub mod FragmentLemmas
 pub mod FileUriLemmas
 pub mod BaseLemmas
 pub mod RelativeLemmas

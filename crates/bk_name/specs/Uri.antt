@@ -5,7 +5,8 @@
 --   ReadsBack   parsed and serialized, the text is itself
 --   IsUri       the text of a valid URL in the form that the parser gives; parsed at any base, it is that URL
 --   joined      the text that a reference gives at a base
-use Rattle.std.specs.Prelude.{◌≡◌, Bool, List, ℕ, bytes_eq, Option, Some, None, option_map, option_and_then, if◌then◌else◌}
+--   without_fragment   the text of a URI, serialized with the fragment left out
+use Rattle.std.specs.Prelude.{◌≡◌, Bool, List, ℕ, bytes_eq, Option, Some, None, unwrap_or, option_map, option_and_then, if◌then◌else◌}
 use Rattle.std.specs.Option.{option_eq}
 use Rattle.std.specs.Result.{result_ok}
 use Rattle.url.specs.Parser.{parse_url}
@@ -50,3 +51,11 @@ url_at base reference = result_ok (parse_url (Some base) reference)
 -- the text that a reference gives at a base; none where it spells no URL there, or one that doesn't read back
 unfoldable pub joined : List ℕ → List ℕ → Option (List ℕ)
 joined base reference = option_and_then (λ (b : Parts). option_and_then own_text (url_at b reference)) (url_of base)
+
+-- the URL with no fragment
+abbrev pub cut : Parts → Parts
+cut url = record url { fragment = None }
+
+-- the serialized URL of a text, its fragment left out; a text that spells no URL stays
+unfoldable pub without_fragment : List ℕ → List ℕ
+without_fragment text = unwrap_or (option_map (λ (url : Parts). serialize (cut url)) (url_of text)) text

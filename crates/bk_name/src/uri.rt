@@ -4,11 +4,12 @@ ghost use Rattle.url.specs.Parser.{IsOutOfRoom};
 ghost use Rattle.url.specs.Parts.{serialize, IsValid};
 ghost use Rattle.url.specs.Canonical.{IsCanonical};
 ghost use Rattle.bk_name.specs.Uri.{IsUri, IsUriUrl, ReadsBack};
+ghost use Rattle.bk_name.specs.Uri as spec;
 
 use std::alloc::{AllocError, Global};
 use std::marker::Model;
 use std::rc::Rc;
-use url::{ParseError, Url};
+use url::{ParseError, Position, Url};
 
 /// A URI, as `file:///book/a%20b.xml`. Several owners share one text.
 #[derive(Debug, Drop)]
@@ -74,6 +75,20 @@ impl Uri {
         ensures reads_back { ReadsBack self.now }
     {
         self.url.as_str()
+    }
+
+    /// The URI without its fragment, as a base has none (RFC 3986, section 5.1). The one error is want of memory.
+    pub fn without_fragment(&self, alloc: Global) -> Result<Uri, AllocError>
+        ensures value { IfOk result (λ uri. uri ≡ spec.without_fragment self.now) }
+    {
+        let url = self.url();
+        if url.fragment().is_none() {
+            return self.share();
+        }
+        Uri::from_text(
+            alloc,
+            url.slice(Position::BeforeScheme, Position::AfterQuery),
+        )
     }
 
     /// One more owner of the same URI. The one error is a full count of owners.

@@ -128,3 +128,19 @@ fn names_of_uris(rt: HostRuntime) -> Result<(), Fail> {
     }
     Ok(())
 }
+
+#[test]
+fn uris_without_their_fragment(rt: HostRuntime) -> Result<(), Fail> {
+    let cases = [
+        ("file:///a", "file:///a"),
+        ("file:///a#f", "file:///a"),
+        ("file:///a?q#", "file:///a?q"),
+        ("http://h/?#f", "http://h/?"),
+        ("urn:a#f", "urn:a"),
+    ];
+    for (text, expected) in cases {
+        let uri = uri_from(rt.alloc(), text)?.without_fragment(rt.alloc())?;
+        assert_eq!(rt; uri.as_str(), expected);
+    }
+    Ok(())
+}
