@@ -1,10 +1,10 @@
 -- URIs as texts, after the URL Standard, sections 4.4 (parsing) and 4.5 (serializing). A text is the list of its bytes.
 -- `parse_url` and `serialize` are the standard's, of the crate `url`.
 --
---   url_of      the URL that a text spells by itself
---   ReadsBack   parsed and serialized, the text is itself
---   IsUri       the text of a valid URL in the form that the parser gives; parsed at any base, it is that URL
---   joined      the text that a reference gives at a base
+--   url_of             the URL that a text spells by itself
+--   ReadsBack          parsed and serialized, the text is itself
+--   IsUri              the text of a valid URL in the form that the parser gives; parsed at any base, it is that URL
+--   joined             the text that a reference gives at a base
 --   without_fragment   the text of a URI, serialized with the fragment left out
 use Rattle.std.specs.Prelude.{◌≡◌, Bool, List, ℕ, bytes_eq, Option, Some, None, unwrap_or, option_map, option_and_then, if◌then◌else◌}
 use Rattle.std.specs.Option.{option_eq}
