@@ -1,0 +1,4 @@
+pub mod CrashPoints
+pub mod Names
+pub mod Calls
+pub mod Sources
