@@ -2,3 +2,4 @@ pub mod CrashPoints
 pub mod Names
 pub mod Calls
 pub mod Sources
+pub mod StopLemmas

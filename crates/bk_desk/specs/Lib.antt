@@ -7,3 +7,6 @@ pub mod Calls
 pub mod Mem
 pub mod MemSource
 pub mod StdSource
+pub mod Left
+pub mod Covers
+pub mod MemLeft

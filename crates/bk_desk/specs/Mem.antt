@@ -7,7 +7,7 @@
 --   mem_refused    how often memory was refused
 --   IsNew          it is new: these files, these calls to fail, and no call yet
 --   IsCounted      a call was counted, and failed exactly where its number is listed
-use Rattle.std.specs.Prelude.{◌≡◌, ℕ, ◌+◌, ◌≤◌, List, ◌∷◌, [], length, Bool, true, false, nat_eq, Result}
+use Rattle.std.specs.Prelude.{◌≡◌, ℕ, ◌+◌, ◌≤◌, List, ◌∷◌, [], length, take, Bool, true, false, nat_eq, Result}
 use Rattle.std.specs.List.{list_any}
 use Rattle.std.proofs.Common.{subst, sym, arith}
 use Rattle.std.proofs.lemmas.List.{take_all}
@@ -21,6 +21,10 @@ use Rattle.bk_desk.specs.Calls.{after, opening, failures, WasCrashState}
 
 abbrev pub mem_standing : MemDesk → DiskState
 mem_standing desk = after (opening desk.log.start.items) desk.log.calls.items
+
+-- what stood on it after so many calls
+abbrev pub mem_standing_after : MemDesk → ℕ → DiskState
+mem_standing_after desk count = after (opening desk.log.start.items) (take count desk.log.calls.items)
 
 abbrev pub mem_calls : MemDesk → ℕ
 mem_calls desk = length desk.log.calls.items

@@ -15,6 +15,7 @@ mod mem_desk;
 mod mem_source;
 mod source;
 mod std_source;
+mod stop;
 
 pub use desk::{Desk, DeskErr, Got};
 pub use desk_name::DeskName;
@@ -22,3 +23,4 @@ pub use mem_desk::MemDesk;
 pub use mem_source::MemSource;
 pub use source::{Failed, Source};
 pub use std_source::StdSource;
+pub use stop::Left;

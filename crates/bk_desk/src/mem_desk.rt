@@ -6,7 +6,8 @@ ghost use Rattle.bk_desk.specs.DeskNames.{same_name};
 ghost use Rattle.bk_desk.specs.Calls.{file_after, file_in, after, opening};
 
 use crate::log::{Call, Entry, Log};
-use crate::{Desk, DeskErr, DeskName, Got};
+use crate::stop::left_of_all;
+use crate::{Desk, DeskErr, DeskName, Got, Left};
 use std::alloc::{AllocError, Global};
 use xt_table::Seq;
 
@@ -20,7 +21,7 @@ pub struct MemDesk {
 }
 
 // The file under this name before the first call.
-fn first_file<'a>(start: &'a [Entry], name: &DeskName) -> Option<&'a [u8]>
+pub(crate) fn first_file<'a>(start: &'a [Entry], name: &DeskName) -> Option<&'a [u8]>
     ensures value { option_map (λ bytes. bytes.now) result ≡ file_in start.now name.now None }
 {
     let mut found: Option<&'a [u8]> = None;
@@ -33,7 +34,11 @@ fn first_file<'a>(start: &'a [Entry], name: &DeskName) -> Option<&'a [u8]>
 }
 
 // The file under this name after a call, where it was this one before.
-fn next_file<'a>(call: &'a Call, name: &DeskName, file: Option<&'a [u8]>) -> Option<&'a [u8]>
+pub(crate) fn next_file<'a>(
+    call: &'a Call,
+    name: &DeskName,
+    file: Option<&'a [u8]>,
+) -> Option<&'a [u8]>
     ensures value { option_map (λ bytes. bytes.now) result ≡ file_after call.now name.now (option_map (λ bytes. bytes.now) file.entry) }
 {
     match call {
@@ -46,7 +51,11 @@ fn next_file<'a>(call: &'a Call, name: &DeskName, file: Option<&'a [u8]>) -> Opt
 }
 
 // The file under this name after these calls.
-fn file_now<'a>(start: &'a [Entry], calls: &'a [Call], name: &DeskName) -> Option<&'a [u8]>
+pub(crate) fn file_now<'a>(
+    start: &'a [Entry],
+    calls: &'a [Call],
+    name: &DeskName,
+) -> Option<&'a [u8]>
     ensures value { option_map (λ bytes. bytes.now) result ≡ (after (opening start.now) calls.now).files name.now }
 {
     let mut file = first_file(start, name);
@@ -118,11 +127,13 @@ fn entries_of(alloc: Global, files: Vec<(DeskName, Vec<u8>)>) -> Result<Vec<Entr
 impl MemDesk {
     ghost use Rattle.std.specs.Prelude.{◌≡◌, ◌≤◌, ◌+◌, ◌++◌, ◌∷◌, [], length, map, not, IfOk, OnOk, OnErr, IsOkAnd, IsErrOf, Some};
     ghost use Rattle.std.specs.Option.{option_map};
-    ghost use Rattle.bk_desk.specs.Disk.{IsWrite, WhileWriting};
+    ghost use Rattle.bk_desk.specs.Disk.{IsCrashImage, IsWrite, WhileWriting};
     ghost use Rattle.bk_desk.specs.CrashPoints.{Elapses};
     ghost use Rattle.bk_desk.specs.Cause.{Rose, HasCause};
     ghost use Rattle.bk_desk.specs.Calls.{opening};
-    ghost use Rattle.bk_desk.specs.Mem.{mem_standing, mem_calls, mem_fails, mem_faults, mem_was, is_listed, IsNew, IsCounted};
+    ghost use Rattle.bk_desk.specs.Mem.{mem_standing, mem_standing_after, mem_calls, mem_fails, mem_faults, mem_was, is_listed, IsNew, IsCounted};
+    ghost use Rattle.bk_desk.specs.Left.{restarted};
+    ghost use Rattle.bk_desk.specs.MemLeft.{mem_left_image};
 
     /// A desk with these files, nothing pending and nothing told. Of two files of one name the last counts.
     /// The calls numbered in `fails`, from 1, fail. The one error is want of memory.
@@ -161,6 +172,27 @@ impl MemDesk {
         ensures value { result ≡ mem_calls self.now }
     {
         self.log.calls.len() as u64
+    }
+
+    /// A desk with what a crash leaves after so many calls, where every pending file becomes what `left` says:
+    /// nothing pending, nothing told, no call to fail, and no call made yet. The one error is want of memory.
+    pub fn after_stop(&self, calls: u64, left: &Left) -> Result<MemDesk, AllocError>
+        requires count { calls ≤ mem_calls self.now }
+        ensures value { IfOk result (IsNew (restarted (mem_left_image self.now calls left.now)) []) }
+        ensures crash { IsCrashImage (mem_standing_after self.now calls) (mem_left_image self.now calls left.now) }
+    {
+        let start = left_of_all(
+            self.alloc,
+            &self.log.start,
+            &self.log.calls[..calls as usize],
+            left,
+        )?;
+        Ok(MemDesk {
+            alloc: self.alloc,
+            log: Log::new(self.alloc, start),
+            fails: Vec::new(self.alloc),
+            refused: 0,
+        })
     }
 
     // Whether the next call is to do its work.
