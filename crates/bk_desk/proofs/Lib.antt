@@ -3,3 +3,4 @@ pub mod Names
 pub mod Calls
 pub mod Sources
 pub mod StopLemmas
+pub mod Examples

@@ -24,3 +24,6 @@ pub use mem_source::MemSource;
 pub use source::{Failed, Source};
 pub use std_source::StdSource;
 pub use stop::Left;
+
+#[cfg(test)]
+mod tests;

@@ -46,6 +46,11 @@ pub record IsRecovered (start now : DiskState) : Type 0 where
   pub gate : is_open_gate (now.files Gate) ≡ false
   pub durable : NothingPending now
 
+-- files and output are as before, and nothing is pending
+pub record IsOnlySynced (old new : DiskState) : Type 0 where
+  pub syncs : Syncs old new
+  pub durable : NothingPending new
+
 -- the gate is open, and nothing is pending
 pub record HasOpenGate (standing : DiskState) : Type 0 where
   pub gate : is_open_gate (standing.files Gate) ≡ true

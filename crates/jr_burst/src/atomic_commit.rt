@@ -4,11 +4,10 @@ ghost use Rattle.bk_desk.specs.CrashPoints.{AtEachCrash};
 ghost use Rattle.bk_desk.specs.Cause.{HasCause};
 ghost use Rattle.jr_burst.specs.Burst.{IsOldOrNew, RecoversTo, HasOpenJournal, IsClosed, IsCarriedOut, Leaves, overlaid, book_files, is_open_gate, items_in};
 
+use crate::gate::OPEN;
 use crate::planned::Plan;
 use crate::step::Step;
 use bk_desk::{Desk, DeskErr, DeskName};
-
-pub(crate) const OPEN: [u8; 4] = [79, 80, 69, 78];
 
 /// Writes the journal, and opens the gate before it.
 pub(crate) fn open_gate<D: Desk>(desk: &mut D, plan: &Plan) -> Result<(), DeskErr>

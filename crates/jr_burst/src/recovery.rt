@@ -1,18 +1,20 @@
-ghost use Rattle.std.specs.Prelude.{◌≡◌, ◌≤◌, List, ℕ, Some, None, IsTrue, true, IfOk, OnOk, IsErrOf};
+ghost use Rattle.std.specs.Prelude.{◌≡◌, ◌≤◌, List, ℕ, Some, None, IsTrue, false, IfOk, OnOk, IsErrOf};
 ghost use Rattle.std.specs.Option.{option_map};
 ghost use Rattle.bk_desk.specs.declared.desk_name.DeskName.TheVariants.{Journal, Gate};
 ghost use Rattle.bk_desk.specs.Disk.{IsCrashState, Syncs, NothingPending};
 ghost use Rattle.bk_desk.specs.CrashPoints.{AtEachCrash, Elapses};
 ghost use Rattle.bk_desk.specs.Cause.{HasCause};
 ghost use Rattle.jr_burst.specs.Burst.{is_open_gate, items_in, recovered_files, HasOpenJournal};
-ghost use Rattle.jr_burst.specs.Recover.{got_is_open, items_got, fault_of, IsRecovered, IsStartOrRecovered, HasOpenGate};
+ghost use Rattle.jr_burst.specs.Recover.{items_got, fault_of, IsRecovered, IsStartOrRecovered, IsOnlySynced, HasOpenGate};
 
-use crate::atomic_commit::{OPEN, carry_out, close_gate};
+use crate::atomic_commit::{carry_out, close_gate};
+use crate::gate::read_gate;
 use crate::make::steps_of;
 use crate::step::Step;
 use bk_desk::{Desk, DeskErr, DeskName, Got};
 use jr_form::{Item, read_journal};
 use std::alloc::{AllocError, Global};
+use thiserror::Error;
 
 /// Why nothing was recovered_files.
 #[derive(Clone, Copy, Debug, PartialEq, Eq, Drop)]
@@ -31,31 +33,6 @@ impl From<DeskErr> for RecoverFault {
             DeskErr::NoMemory => RecoverFault::NoMemory,
         }
     }
-}
-
-fn is_open(got: &Got) -> bool
-    ensures value { result ≡ got_is_open got.now }
-{
-    match got {
-        Got::Bytes(bytes) => {
-            let text: &[u8] = &OPEN;
-            bytes.as_slice() == text
-        }
-        Got::Absent => false,
-        Got::Longer => false,
-    }
-}
-
-/// Whether the gate reads as open.
-pub(crate) fn read_gate<D: Desk>(desk: &mut D) -> Result<bool, DeskErr>
-    ensures value { IsTrue D.tells → IfOk result (λ answer. answer ≡ is_open_gate ((D.standing desk.old).files Gate)) }
-    ensures same { IsTrue D.tells → D.standing desk.new ≡ D.standing desk.old }
-    ensures crash { IsTrue D.tells → Elapses (D.time desk.old) (D.time desk.new) (D.was desk.old) (D.was desk.new) (IsCrashState (D.standing desk.old)) }
-    ensures cause_desk { HasCause (D.faults desk.old) (D.faults desk.new) (IsErrOf result DeskErr.Failed) }
-    ensures cause_memory { HasCause (D.refused desk.old) (D.refused desk.new) (IsErrOf result DeskErr.NoMemory) }
-{
-    let got = desk.read(&DeskName::Gate, 5)?;
-    Ok(is_open(&got))
 }
 
 fn items_of(alloc: Global, got: &Got) -> Result<Option<Vec<Item>>, AllocError>
@@ -103,7 +80,7 @@ fn redo<D: Desk>(alloc: Global, desk: &mut D) -> Result<(), RecoverFault>
     requires current { IsTrue D.tells → HasOpenGate (D.standing desk.old) }
     ensures durable { IsTrue D.tells → OnOk result (IsRecovered (D.standing desk.old) (D.standing desk.new)) }
     ensures fault { IsTrue D.tells → IsErrOf result RecoverFault.Journal → recovered_files (D.standing desk.old).files ≡ None }
-    ensures unwritten { IsTrue D.tells → IsErrOf result RecoverFault.Journal → D.standing desk.new ≡ D.standing desk.old }
+    ensures same { IsTrue D.tells → IsErrOf result RecoverFault.Journal → D.standing desk.new ≡ D.standing desk.old }
     ensures crash { IsTrue D.tells → AtEachCrash D.time D.was desk.old desk.new (IsStartOrRecovered (D.standing desk.old)) }
     ensures cause_desk { HasCause (D.faults desk.old) (D.faults desk.new) (IsErrOf result RecoverFault.Desk) }
 {
@@ -116,13 +93,13 @@ fn redo<D: Desk>(alloc: Global, desk: &mut D) -> Result<(), RecoverFault>
     }
 }
 
-/// Brings the files to what they stand for after a stop. It may be stopped at any crash itself.
+/// Brings the files to what they stand for after a stop. It may be stopped at any point itself.
+/// Where the gate is closed it writes nothing: a journal beside it is left as it is.
 pub fn recover<D: Desk>(alloc: Global, desk: &mut D) -> Result<(), RecoverFault>
     ensures durable { IsTrue D.tells → OnOk result (IsRecovered (D.standing desk.old) (D.standing desk.new)) }
     ensures fault { IsTrue D.tells → IsErrOf result RecoverFault.Journal → recovered_files (D.standing desk.old).files ≡ None }
-    // Then nothing was written.
-    ensures unwritten { IsTrue D.tells → IsErrOf result RecoverFault.Journal → Syncs (D.standing desk.old) (D.standing desk.new) }
-    ensures synced { IsTrue D.tells → IsErrOf result RecoverFault.Journal → NothingPending (D.standing desk.new) }
+    ensures same { IsTrue D.tells → IsErrOf result RecoverFault.Journal → IsOnlySynced (D.standing desk.old) (D.standing desk.new) }
+    ensures others { IsTrue D.tells → is_open_gate ((D.standing desk.old).files Gate) ≡ false → Syncs (D.standing desk.old) (D.standing desk.new) }
     ensures crash { IsTrue D.tells → AtEachCrash D.time D.was desk.old desk.new (IsStartOrRecovered (D.standing desk.old)) }
     ensures cause_desk { HasCause (D.faults desk.old) (D.faults desk.new) (IsErrOf result RecoverFault.Desk) }
 {

@@ -29,7 +29,7 @@ name_takes bytes name rest fits e =
     subst (λ (p : List ℕ × List ℕ). Takes bytes (name_field p.0) p.1 × (is_file_name p.0 ≡ true)) (some_is b.0 (name, rest) g.1) (whole, g.0)
 
 -- both parts of a test that holds
-both_hold : (a b : Bool) → (a && b) ≡ true → (a ≡ true) × (b ≡ true)
+pub both_hold : (a b : Bool) → (a && b) ≡ true → (a ≡ true) × (b ≡ true)
 both_hold true b e = (refl, e)
 both_hold false b e = absurd cc
 

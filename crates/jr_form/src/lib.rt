@@ -5,11 +5,16 @@
 //! Sizes count bytes. `write_journal` and `read_journal` take memory, `are_writable` none.
 #![tactic(auto)]
 
+mod condition;
 mod item;
 mod limits;
 mod reading;
 mod writing;
 
+pub use condition::are_writable;
 pub use item::Item;
 pub use reading::read_journal;
 pub use writing::{one_reading, write_journal};
+
+#[cfg(test)]
+mod tests;
