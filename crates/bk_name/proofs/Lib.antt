@@ -1,1 +1,11 @@
 pub mod FileNameLemmas
+pub mod UriLemmas
+pub mod EscapeLemmas
+pub mod FragmentLemmas
+pub mod FileUriLemmas
+pub mod BaseLemmas
+pub mod RelativeLemmas
+pub mod TextLemmas
+pub mod FilesLemmas
+pub mod LawLemmas
+pub mod Examples

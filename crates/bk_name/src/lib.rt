@@ -4,7 +4,26 @@
 //! Names, bases and URIs are seen as lists of bytes; a copy by `share` copies no text and takes no memory.
 #![tactic(auto)]
 
+mod base;
+mod file_uri;
+mod files;
+mod joining;
+mod laws;
 mod name;
 mod name_order;
+mod relative_reference;
+#[cfg(test)]
+mod tests;
+mod uri;
 
+pub use base::{BadBase, Base};
+pub use file_uri::{name_of, uri_of};
+pub use files::{Bytes, Entry, Files, Look};
+pub use joining::{JoinFault, join};
+pub use laws::{
+    file_uris_differ, file_uris_name, named_is_name, relatives_lead, uris_join_to_themselves,
+    uris_read_back,
+};
 pub use name::{BadName, Name, is_file_name};
+pub use relative_reference::relative;
+pub use uri::Uri;

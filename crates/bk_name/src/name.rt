@@ -35,6 +35,17 @@ pub enum BadName {
     NoMemory,
 }
 
+impl From<AllocError> for BadName {
+    ghost use Rattle.std.specs.Prelude.{◌≡◌};
+    ghost use Rattle.bk_name.specs.declared.name.BadName.TheVariants as refused;
+
+    ghost from_gives = { λ _ e. e ≡ refused.NoMemory };
+
+    fn from(_e: AllocError) -> BadName {
+        BadName::NoMemory
+    }
+}
+
 fn is_name_char(c: char) -> bool
     ensures value { result ≡ xml.is_name_char c }
 {
@@ -100,10 +111,9 @@ impl Name {
         if !is_file_name(text) {
             return Err(BadName::BadName);
         }
-        match RcStr::from_str(alloc, text) {
-            Ok(text) => Ok(Name { text }),
-            Err(_) => Err(BadName::NoMemory),
-        }
+        Ok(Name {
+            text: RcStr::from_str(alloc, text)?,
+        })
     }
 
     /// The bytes of the name, which are a text.

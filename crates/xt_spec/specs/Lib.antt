@@ -1,2 +1,10 @@
 pub mod Char
 pub mod Name
+pub mod Reference
+pub mod Tag
+pub mod Token
+pub mod Tree
+pub mod Text
+pub mod Reading
+pub mod Value
+pub mod Plain

@@ -1,0 +1,5 @@
+pub mod NameTest
+pub mod Kinds
+pub mod Scan
+pub mod Data
+pub mod Place

@@ -1,0 +1,147 @@
+-- Reading from the front of a text: what each step leaves, or none. A text is the list of its bytes.
+use Rattle.std.specs.Prelude.{zero, suc, ◌||◌, ◌&&◌, ◌≡◌, ℕ, length, not, Bool, true, false, ◌==◌, List, [], ◌∷◌, Option, Some, None, if◌then◌else◌}
+use Rattle.std.specs.Str.{chars}
+use Rattle.std.specs.List.{list_all}
+use Rattle.xt_spec.specs.Char.{is_space, is_char}
+use Rattle.xt_spec.specs.Name.{are_ncname_chars}
+use Rattle.xt_spec.specs.Reference.{is_decimal_digit, is_hexadecimal_digit, number_behind}
+use Rattle.xt_spec.specs.Token.{TokenKind, start_tag, empty_tag, end_tag, char_ref, entity_ref}
+use Rattle.xt_lex.specs.NameTest.{is_name_byte, qname}
+
+infixl 10 ◌>>=◌
+abbrev pub ◌>>=◌ : {A B : Type 0} → Option A → (A → Option B) → Option B
+(Some x) >>= f = f x
+None >>= f = None
+
+abbrev pub maybe : {A B : Type 0} → B → (A → B) → Option A → B
+maybe none some None = none
+maybe none some (Some x) = some x
+
+abbrev pub is_found : {A : Type 0} → Option A → Bool
+is_found None = false
+is_found (Some x) = true
+
+-- the longest front each of whose bytes passes
+abbrev pub run : (ℕ → Bool) → List ℕ → List ℕ
+run p [] = []
+run p (b ∷ bs) = if p b then b ∷ run p bs else []
+
+-- what follows it
+abbrev pub behind : (ℕ → Bool) → List ℕ → List ℕ
+behind p [] = []
+behind p (b ∷ bs) = if p b then behind p bs else b ∷ bs
+
+-- what follows the byte c
+abbrev pub after : ℕ → List ℕ → Option (List ℕ)
+after c [] = None
+after c (b ∷ bs) = if b == c then Some bs else None
+
+abbrev pub after_qname : List ℕ → Option (List ℕ)
+after_qname text = if qname (run is_name_byte text) then Some (behind is_name_byte text) else None
+
+abbrev pub after_ncname : List ℕ → Option (List ℕ)
+after_ncname text = if are_ncname_chars (chars (run is_name_byte text)) then Some (behind is_name_byte text) else None
+
+-- what follows white space, of which there is some
+abbrev pub after_space : List ℕ → Option (List ℕ)
+after_space [] = None
+after_space (b ∷ bs) = if is_space b then Some (behind is_space bs) else None
+
+-- the Char whose number digits spell in a base
+abbrev pub named : ℕ → List ℕ → Option ℕ
+named base digits = if is_char (number_behind base 0 digits) then Some (number_behind base 0 digits) else None
+
+-- the Char that digits name, and what follows the `;` behind them
+unfoldable pub after_number : ℕ → (ℕ → Bool) → List ℕ → Option (ℕ × List ℕ)
+after_number base is_digit text = named base (run is_digit text) >>= λ c. after 0x3B (behind is_digit text) >>= λ r. Some (c, r)
+
+-- behind `&#`: the Char of the reference, and what follows it
+unfoldable pub after_char_ref : List ℕ → Option (ℕ × List ℕ)
+after_char_ref text = maybe (after_number 10 is_decimal_digit text) (after_number 16 is_hexadecimal_digit) (after 0x78 text)
+
+abbrev pub ended : ℕ → List ℕ → Option ℕ
+ended c [] = Some c
+ended c (b ∷ bs) = None
+
+-- the Char of a character reference that is the whole text
+unfoldable pub numbered : List ℕ → Option ℕ
+numbered text = after 0x26 text >>= λ s. after 0x23 s >>= λ h. after_char_ref h >>= λ x. ended x.0 x.1
+
+-- behind the `&` of an entity reference
+abbrev pub entity_step : List ℕ → Option (TokenKind × List ℕ)
+entity_step text = after_ncname text >>= λ n. after 0x3B n >>= λ r. Some (entity_ref, r)
+
+-- behind the `&#` of a character reference
+abbrev pub number_step : List ℕ → Option (TokenKind × List ℕ)
+number_step text = after_char_ref text >>= λ x. Some (char_ref, x.1)
+
+-- the kind of the reference at the front, and what follows it
+unfoldable pub reference : List ℕ → Option (TokenKind × List ℕ)
+reference text = after 0x26 text >>= λ s. maybe (entity_step s) number_step (after 0x23 s)
+
+abbrev pub is_no_ampersand : ℕ → Bool
+is_no_ampersand b = not (b == 0x26)
+
+-- each `&` begins a reference
+abbrev pub references_stand : List ℕ → Bool
+references_stand [] = true
+references_stand (b ∷ bs) = (if b == 0x26 then is_found (reference (b ∷ bs)) else true) && references_stand bs
+
+abbrev pub is_attr_char : ℕ → Bool
+is_attr_char c = is_char c && not (c == 0x3C)
+
+-- what may stand between quotes, but for the quotes
+abbrev pub is_value : List ℕ → Bool
+is_value text = list_all is_attr_char (chars text) && references_stand text
+
+-- what follows a value and its second quote q
+abbrev pub after_value : ℕ → List ℕ → Option (List ℕ)
+after_value q text = if is_value (run (λ b. not (b == q)) text) then after q (behind (λ b. not (b == q)) text) else None
+
+-- what follows a value in quotes
+abbrev pub after_quoted : List ℕ → Option (List ℕ)
+after_quoted [] = None
+after_quoted (b ∷ bs) = if b == 0x22 || b == 0x27 then after_value b bs else None
+
+-- what follows the white space, the name, the Eq and the value of an attribute
+abbrev pub Rests : Type 0
+Rests = List ℕ × List ℕ × List ℕ × List ℕ
+
+unfoldable pub attribute_rests : List ℕ → Option Rests
+attribute_rests text =
+    after_space text >>= λ name. after_qname name >>= λ behind_name. after 0x3D (behind is_space behind_name)
+    >>= λ equals. after_quoted (behind is_space equals) >>= λ rest. Some (name, behind_name, behind is_space equals, rest)
+
+-- what follows an attribute and the white space before it
+unfoldable pub attribute : List ℕ → Option (List ℕ)
+attribute text = attribute_rests text >>= λ x. Some x.3
+
+-- what is left when a step is taken as often as it can be, at most n times
+abbrev pub many_in : ℕ → (List ℕ → Option (List ℕ)) → List ℕ → List ℕ
+many_in zero f s = s
+many_in (suc n) f s = maybe s (many_in n f) (f s)
+
+unfoldable pub many : (List ℕ → Option (List ℕ)) → List ℕ → List ℕ
+many f s = many_in (length s) f s
+
+-- how a start-tag or an empty-element tag ends
+abbrev pub open_end : List ℕ → Option (TokenKind × List ℕ)
+open_end [] = None
+open_end (b ∷ bs) = if b == 0x3E then Some (start_tag, bs) else (after 0x2F (b ∷ bs) >>= λ s. after 0x3E s >>= λ r. Some (empty_tag, r))
+
+-- behind the `<` of such a tag
+unfoldable pub open_tag : List ℕ → Option (TokenKind × List ℕ)
+open_tag text = after_qname text >>= λ s. open_end (behind is_space (many attribute s))
+
+-- behind the `</` of an end-tag
+unfoldable pub closing_tag : List ℕ → Option (List ℕ)
+closing_tag text = after_qname text >>= λ s. after 0x3E (behind is_space s)
+
+-- a token that begins with `<`
+unfoldable pub markup : List ℕ → Option (TokenKind × List ℕ)
+markup text = after 0x3C text >>= λ s. maybe (open_tag s) (λ e. closing_tag e >>= λ r. Some (end_tag, r)) (after 0x2F s)
+
+-- a token that begins with `<` or `&`
+abbrev pub delimited : List ℕ → Option (TokenKind × List ℕ)
+delimited [] = None
+delimited (b ∷ bs) = if b == 0x3C then markup (b ∷ bs) else (if b == 0x26 then reference (b ∷ bs) else None)

@@ -1,0 +1,76 @@
+//! Steps from the front of a text: each gives what follows it.
+
+ghost use Rattle.std.specs.Prelude.{not, ◌==◌, ◌≡◌, ◌<◌};
+ghost use Rattle.std.specs.List.{prefix_len};
+ghost use Rattle.std.specs.Option.{option_copied};
+ghost use Rattle.xt_spec.specs.Char.{is_space};
+ghost use Rattle.xt_lex.specs.Scan.{after_space, run, behind, after, after_qname, after_ncname};
+ghost use Rattle.xt_lex.specs.NameTest.{is_name_byte};
+
+use crate::chars::{is_name_byte, is_space};
+use crate::names::{is_ncname, is_qname};
+
+/// What follows the character, an ASCII one.
+pub(crate) fn after(c: char, text: &str) -> Option<&str>
+    requires { c < 128 }
+    ensures { option_copied result ≡ after c text.now }
+{
+    text.strip_prefix(c)
+}
+
+fn blank_len(bytes: &[u8]) -> usize
+    ensures { result ≡ prefix_len is_space bytes.now }
+{
+    bytes.iter().take_while(|b| is_space(**b)).count()
+}
+
+fn name_len(bytes: &[u8]) -> usize
+    ensures { result ≡ prefix_len is_name_byte bytes.now }
+{
+    bytes.iter().take_while(|b| is_name_byte(**b)).count()
+}
+
+/// What follows optional white space.
+pub(crate) fn after_blank(text: &str) -> &str
+    ensures { result.now ≡ behind is_space text.now }
+{
+    &text[blank_len(text.as_bytes())..]
+}
+
+/// What follows white space, of which there is some.
+pub(crate) fn after_space(text: &str) -> Option<&str>
+    ensures { option_copied result ≡ after_space text.now }
+{
+    match text.as_bytes() {
+        [first, ..] => if is_space(*first) {
+            Some(after_blank(text))
+        } else {
+            None
+        },
+        [] => None,
+    }
+}
+
+/// The front that could be a name, and what follows it.
+pub(crate) fn split_name(text: &str) -> (&str, &str)
+    ensures name { result.0.now ≡ run is_name_byte text.now }
+    ensures rest { result.1.now ≡ behind is_name_byte text.now }
+{
+    text.split_at(name_len(text.as_bytes()))
+}
+
+/// What follows a QName.
+pub(crate) fn after_qname(text: &str) -> Option<&str>
+    ensures { option_copied result ≡ after_qname text.now }
+{
+    let (name, rest) = split_name(text);
+    if is_qname(name) { Some(rest) } else { None }
+}
+
+/// What follows an NCName.
+pub(crate) fn after_ncname(text: &str) -> Option<&str>
+    ensures { option_copied result ≡ after_ncname text.now }
+{
+    let (name, rest) = split_name(text);
+    if is_ncname(name) { Some(rest) } else { None }
+}

@@ -1,0 +1,28 @@
+//! From bytes to tokens: UTF-8, characters, names, the longest token at a place of a text, the attributes of a tag, and
+//! the character that a reference stands for. XML 1.0 (Fifth Edition), 2.2 to 2.4, 3.1, 4.1 and 4.6; Namespaces in XML
+//! 1.0, 3. Offsets are bytes of the text, from 0, half open. Nothing here takes memory.
+//!
+//! Here no token is judged by what stands before it: nesting, names of end-tags and two attributes of one name are the
+//! reader's. A token's value is not read either. What a token is, is said by `xt_spec`.
+#![tactic(auto)]
+
+mod attribute;
+mod chars;
+mod data;
+mod front;
+mod names;
+mod reference;
+mod steps;
+mod tag;
+#[cfg(test)]
+mod tests;
+mod text;
+mod token;
+
+pub use attribute::{AttrSrc, next_attribute};
+pub use chars::is_char;
+pub use names::{is_name, is_ncname, is_qname, name_at};
+pub use reference::referenced_char;
+pub use steps::Steps;
+pub use text::{NotUtf8, text_of};
+pub use token::{Kind, LexFault, Span, Token, next_token};
