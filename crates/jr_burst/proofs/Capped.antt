@@ -7,7 +7,7 @@ use Rattle.bk_desk.specs.declared.desk.Got.{Got}
 use Rattle.bk_desk.specs.Disk.{got_of}
 use Rattle.jr_form.specs.declared.item.Item.{Item}
 use Rattle.jr_form.specs.Reading.{reading}
-use Rattle.jr_burst.specs.Burst.{open_text, is_open_gate, items_in}
+use Rattle.jr_burst.specs.SavedFiles.{open_text, is_open_gate, items_in}
 use Rattle.jr_burst.specs.Recover.{got_is_open, items_got}
 
 pub gate_read : (file : Option (List ℕ)) → got_is_open (got_of file 5) ≡ is_open_gate file

@@ -5,7 +5,7 @@ use Rattle.bk_desk.specs.declared.desk_name.DeskName.{DeskName}
 use Rattle.bk_desk.specs.declared.desk_name.DeskName.TheVariants.{Book, Journal, Gate}
 use Rattle.bk_desk.specs.Disk.{DiskImage}
 use Rattle.jr_form.specs.declared.item.Item.{Item}
-use Rattle.jr_burst.specs.Burst.{Files, changed, overlaid, names, is_open_gate, recovered_files}
+use Rattle.jr_burst.specs.SavedFiles.{Files, changed, overlaid, names, is_open_gate, recovered_files}
 
 -- `OPEN` alone is an open gate
 is_open_gate-right : is_open_gate (Some (codes "OPEN")) ≡ true

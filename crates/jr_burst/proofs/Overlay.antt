@@ -7,7 +7,7 @@ use Rattle.bk_desk.specs.declared.desk_name.DeskName.{DeskName}
 use Rattle.bk_desk.specs.declared.desk_name.DeskName.TheVariants.{Book, Journal, Gate}
 use Rattle.bk_desk.specs.Disk.{DiskState, Replaces}
 use Rattle.jr_form.specs.declared.item.Item.{Item}
-use Rattle.jr_burst.specs.Burst.{Files, book_files, changed, overlaid, names}
+use Rattle.jr_burst.specs.SavedFiles.{Files, book_files, changed, overlaid, names}
 
 -- the files under the names that no item has decide
 pub overlaid_same : (items : List Item) (f g : Files) → ((name : List ℕ) → names items name ≡ false → f name ≡ g name) → overlaid items f ≡ overlaid items g

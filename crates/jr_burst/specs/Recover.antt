@@ -1,4 +1,9 @@
--- What recovery finds and leaves.
+-- What a recovery finds, and what it and a crash at any point of it leave; of this project.
+--
+--   IsUnnamed           no journal under an open gate names this file
+--   IsStartOrRecovered  a crash at any point of a recovery
+--   IsRecovered         what it leaves
+--   IsOnlySynced        nothing was written
 use Rattle.std.specs.Prelude.{◌≡◌, ◌⊎◌, ℕ, ◌≤◌, List, Bool, true, false, nat_eq, Option, Some, None, Result, IfSome, IsErrOf}
 use Rattle.std.specs.Cmp.Lexicographic.{pointwise}
 use Rattle.bk_desk.specs.declared.desk_name.DeskName.{DeskName}
@@ -12,18 +17,21 @@ use Rattle.jr_form.specs.declared.item.Item.{Item}
 use Rattle.jr_form.specs.Reading.{reading}
 use Rattle.jr_burst.specs.declared.recovery.RecoverFault.{RecoverFault}
 use Rattle.jr_burst.specs.declared.recovery.RecoverFault.TheVariants as faults
-use Rattle.jr_burst.specs.Burst.{Files, book_files, names, open_text, is_open_gate, items_in, recovered_files}
+use Rattle.jr_burst.specs.SavedFiles.{Files, book_files, names, open_text, is_open_gate, items_in, recovered_files}
 
+-- whether what a read of the gate gave is an open one
 abbrev pub got_is_open : Got → Bool
 got_is_open (Bytes bytes) = pointwise nat_eq bytes open_text
 got_is_open Absent = false
 got_is_open Longer = false
 
+-- the items of what a read of the journal gave
 abbrev pub items_got : Got → Option (List Item)
 items_got (Bytes bytes) = reading bytes
 items_got Absent = None
 items_got Longer = None
 
+-- a desk's error as a recovery's
 abbrev pub fault_of : DeskErr → RecoverFault
 fault_of Failed = faults.Desk
 fault_of NoMemory = faults.NoMemory
@@ -32,8 +40,8 @@ fault_of NoMemory = faults.NoMemory
 abbrev pub IsUnnamed : DiskState → List ℕ → Type 0
 IsUnnamed start name = is_open_gate (start.files Gate) ≡ true → IfSome (items_in (start.files Journal)) (λ items. names items name ≡ false)
 
--- A crash of a recovery: what was told is unchanged, the image is one of the start or recovers to what the files
--- read at the start recover to, and a book file that no open journal names is as at the start.
+-- A crash at any point of a recovery: what was told is unchanged, the image is one of the start or recovers to what the files
+-- read at the start recover to, and a book file that no open journal names is left as it may have been at the start.
 pub record IsStartOrRecovered (start : DiskState) (crash : CrashState) : Type 0 where
   pub told : crash.told ≡ start.told
   pub recovers : IsCrashImage start crash.image ⊎ (recovered_files crash.image ≡ recovered_files start.files)

@@ -2,14 +2,15 @@ ghost use Rattle.std.specs.Prelude.{◌≡◌, ◌≤◌, ◌⊎◌, [], List, �
 ghost use Rattle.bk_desk.specs.declared.desk_name.DeskName.TheVariants.{Journal, Gate};
 ghost use Rattle.bk_desk.specs.CrashPoints.{AtEachCrash};
 ghost use Rattle.bk_desk.specs.Cause.{HasCause};
-ghost use Rattle.jr_burst.specs.Burst.{IsOldOrNew, RecoversTo, HasOpenJournal, IsClosed, IsCarriedOut, Leaves, overlaid, book_files, is_open_gate, items_in};
+ghost use Rattle.jr_burst.specs.SavedFiles.{overlaid, book_files, is_open_gate, items_in};
+ghost use Rattle.jr_burst.specs.Commit.{IsOldOrNew, RecoversTo, HasOpenJournal, IsClosed, IsCarriedOut, Leaves};
 
 use crate::gate::OPEN;
 use crate::planned::Plan;
 use crate::step::Step;
 use bk_desk::{Desk, DeskErr, DeskName};
 
-/// Writes the journal, and opens the gate before it.
+/// Writes the journal, makes it durable, and opens the gate.
 pub(crate) fn open_gate<D: Desk>(desk: &mut D, plan: &Plan) -> Result<(), DeskErr>
     requires current { IsTrue D.tells → IsClosed (D.standing desk.old) }
     ensures value { IsTrue D.tells → OnOk result (HasOpenJournal plan.now (D.standing desk.new)) }
@@ -52,9 +53,10 @@ pub(crate) fn close_gate<D: Desk>(desk: &mut D) -> Result<(), DeskErr>
     desk.sync()
 }
 
-/// Writes and removes the files of the plan. After a stop at any crash they are all as before or all as planned.
+/// Writes and removes the files of the plan. After a stop at any point they are all as before or all as planned.
+/// It takes no memory of its own: an error is the desk's. After one, `recover` brings the files to either.
 pub fn commit<D: Desk>(desk: &mut D, plan: &Plan) -> Result<(), DeskErr>
-    // Where the desk tells its files, the gate is closed and isn't pending.
+    // Its test is `is_closed`.
     requires current { IsTrue D.tells → IsClosed (D.standing desk.old) }
     ensures value { IsTrue D.tells → OnOk result ((D.standing desk.new).files Gate ≡ None) }
     ensures durable { IsTrue D.tells → OnOk result (Leaves (overlaid plan.now (book_files (D.standing desk.old).files)) (D.standing desk.old) (D.standing desk.new)) }

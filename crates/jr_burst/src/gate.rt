@@ -4,7 +4,8 @@ ghost use Rattle.bk_desk.specs.declared.desk_name.DeskName.TheVariants.{Gate};
 ghost use Rattle.bk_desk.specs.Disk.{IsCrashState, Syncs, NothingPending};
 ghost use Rattle.bk_desk.specs.CrashPoints.{AtEachCrash, Elapses};
 ghost use Rattle.bk_desk.specs.Cause.{HasCause};
-ghost use Rattle.jr_burst.specs.Burst.{is_open_gate, IsClosed};
+ghost use Rattle.jr_burst.specs.SavedFiles.{is_open_gate};
+ghost use Rattle.jr_burst.specs.Commit.{IsClosed};
 ghost use Rattle.jr_burst.specs.Recover.{got_is_open};
 
 use bk_desk::{Desk, DeskErr, DeskName, Got};

@@ -4,7 +4,8 @@ ghost use Rattle.bk_desk.specs.declared.desk_name.DeskName.TheVariants.{Journal,
 ghost use Rattle.bk_desk.specs.Disk.{IsCrashState, Syncs, NothingPending};
 ghost use Rattle.bk_desk.specs.CrashPoints.{AtEachCrash, Elapses};
 ghost use Rattle.bk_desk.specs.Cause.{HasCause};
-ghost use Rattle.jr_burst.specs.Burst.{is_open_gate, items_in, recovered_files, HasOpenJournal};
+ghost use Rattle.jr_burst.specs.SavedFiles.{is_open_gate, items_in, recovered_files};
+ghost use Rattle.jr_burst.specs.Commit.{HasOpenJournal};
 ghost use Rattle.jr_burst.specs.Recover.{items_got, fault_of, IsRecovered, IsStartOrRecovered, IsOnlySynced, HasOpenGate};
 
 use crate::atomic_commit::{carry_out, close_gate};
@@ -16,11 +17,17 @@ use jr_form::{Item, read_journal};
 use std::alloc::{AllocError, Global};
 use thiserror::Error;
 
-/// Why nothing was recovered_files.
-#[derive(Clone, Copy, Debug, PartialEq, Eq, Drop)]
+/// Why the files were not brought to what they stand for.
+#[derive(Clone, Copy, Debug, PartialEq, Eq, Drop, Error)]
 pub enum RecoverFault {
+    /// The disk failed: its count of faults rose in this call.
+    #[error("the disk failed")]
     Desk,
+    /// The gate is open and the journal has no reading, as a cut one. Nothing was written.
+    #[error("the journal is damaged")]
     Journal,
+    /// Memory was wanting, here or on the desk.
+    #[error("out of memory")]
     NoMemory,
 }
 

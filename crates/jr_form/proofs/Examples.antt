@@ -4,7 +4,7 @@ use Rattle.std.specs.Prelude.{codes}
 use Rattle.jr_form.specs.declared.item.Item.{Item}
 use Rattle.jr_form.specs.Journal.{entry, spelling, comes_after, file_size}
 use Rattle.jr_form.specs.Condition.{ascends, files_fit}
-use Rattle.jr_form.specs.Reading.{reading}
+use Rattle.jr_form.specs.Reading.{mark_at, reading}
 
 -- c.xml is written as <c>new</c>
 abbrev written : Item
@@ -47,5 +47,5 @@ files_fit-wrong = refl
 
 -- bytes without the mark are no journal
 reading-wrong : reading (codes "BKBURST2") ≡ None
-unfolding reading
+unfolding reading mark_at
 reading-wrong = refl

@@ -1,7 +1,8 @@
 use Rattle.std.proofs.Common.{◌≤◌, drop}
 use Rattle.std.specs.Prelude.{IsTrue}
 use Rattle.bk_desk.specs.CrashPoints.{AtEachCrash}
-use Rattle.jr_burst.specs.Burst.{RecoversTo, book_files, overlaid}
+use Rattle.jr_burst.specs.SavedFiles.{book_files, overlaid}
+use Rattle.jr_burst.specs.Commit.{RecoversTo}
 use Rattle.jr_burst.proofs.Carrying.{IsUnderWay}
 use Rattle.jr_burst.proofs.atomic_commit.carry_out.Given as goal
 
