@@ -1,15 +1,14 @@
 -- One more call of a desk in memory.
-use Rattle.std.proofs.Common.{◌≡◌, ◌⊎◌, inl, inr, ⊎_elim, ℕ, ◌+◌, ◌≤◌, ◌<◌, List, [], ◌∷◌, ◌++◌, length, take, Bool, true, false, cond, Option, Some, None, Result, Ok, Err, refl, sym, ◌∙◌, ap, subst, arith, length-append}
+use Rattle.std.proofs.Common.{◌≡◌, ◌⊎◌, inl, inr, ⊎_elim, ℕ, ◌+◌, ◌≤◌, ◌<◌, List, [], ◌∷◌, ◌++◌, length, take, Bool, true, false, cond, Option, Result, Ok, Err, refl, sym, ◌∙◌, ap, subst, arith, length-append}
 use Rattle.std.specs.Prelude.{OnOk, IfOk, IsOkAnd, IsErrOf, not, ◌&&◌}
 use Rattle.std.proofs.lemmas.Bool.{cases_lt}
 use Rattle.std.proofs.lemmas.List.{take_all, take_at, take-append-le, append-nil}
 use Rattle.bk_desk.specs.declared.desk_name.DeskName.{DeskName}
 use Rattle.bk_desk.specs.declared.desk.DeskErr.{DeskErr}
-use Rattle.bk_desk.specs.declared.desk.DeskErr.TheVariants.{Failed, NoMemory}
+use Rattle.bk_desk.specs.declared.desk.DeskErr.TheVariants.{Failed}
 use Rattle.bk_desk.specs.declared.log.Call.{Call}
 use Rattle.bk_desk.specs.declared.log.Call.TheVariants.{Read, Put, Sync, Tell}
 use Rattle.bk_desk.specs.declared.log.Entry.{Entry}
-use Rattle.bk_desk.specs.DeskNames.{same_name}
 use Rattle.bk_desk.specs.Disk.{DiskState, CrashState, IsCrashState, WhileWriting, WhileTelling, TouchesOnly, Replaces, IsWrite, Syncs, NothingPending, Tells, TellsPrefix}
 use Rattle.bk_desk.specs.CrashPoints.{Elapses}
 use Rattle.bk_desk.specs.Cause.{HasCause}

@@ -1,5 +1,5 @@
 -- How a run of calls of a desk goes on: the crash states since it began.
-use Rattle.std.proofs.Common.{◌≡◌, inl, inr, ⊎_elim, ℕ, arith}
+use Rattle.std.proofs.Common.{inl, inr, ⊎_elim, ℕ, arith}
 use Rattle.bk_desk.specs.Disk.{CrashState}
 use Rattle.bk_desk.specs.CrashPoints.{Elapses, AtEachCrash}
 

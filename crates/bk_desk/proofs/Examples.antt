@@ -1,16 +1,14 @@
 -- The definitions computed on small cases, right and wrong.
-use Rattle.std.proofs.Common.{◌≡◌, ℕ, List, [], ◌∷◌, Bool, true, false, Option, Some, None, refl, arith}
+use Rattle.std.proofs.Common.{◌≡◌, List, [], ◌∷◌, true, false, Some, None, refl, arith}
 use Rattle.std.specs.Prelude.{codes}
-use Rattle.bk_desk.specs.declared.desk_name.DeskName.{DeskName}
 use Rattle.bk_desk.specs.declared.desk_name.DeskName.TheVariants.{Book, Journal, Gate}
-use Rattle.bk_desk.specs.declared.desk.Got.{Got}
 use Rattle.bk_desk.specs.declared.desk.Got.TheVariants.{Absent, Bytes, Longer}
 use Rattle.bk_desk.specs.declared.log.Call.{Call}
-use Rattle.bk_desk.specs.declared.log.Call.TheVariants.{Read, Put, Sync, Tell}
+use Rattle.bk_desk.specs.declared.log.Call.TheVariants.{Put, Sync, Tell}
 use Rattle.bk_desk.specs.declared.log.Entry.{Entry}
 use Rattle.bk_desk.specs.declared.stop.Left.TheVariants as left
 use Rattle.bk_desk.specs.DeskNames.{same_name}
-use Rattle.bk_desk.specs.Disk.{DiskState, CrashState, MayLeave, IsCrashState, got_of}
+use Rattle.bk_desk.specs.Disk.{DiskState, MayLeave, got_of}
 use Rattle.bk_desk.specs.Cause.{Rose}
 use Rattle.bk_desk.specs.Calls.{after, opening, failures}
 use Rattle.bk_desk.specs.Left.{left_image}

@@ -1,7 +1,7 @@
 -- When two names of a desk are the same; of this project.
 --
 --   same_name    whether both are one book file's name, byte for byte, or one control file
-use Rattle.std.specs.Prelude.{ℕ, List, Bool, true, false, bytes_eq}
+use Rattle.std.specs.Prelude.{Bool, true, false, bytes_eq}
 use Rattle.bk_desk.specs.declared.desk_name.DeskName.{DeskName}
 use Rattle.bk_desk.specs.declared.desk_name.DeskName.TheVariants.{Book, Journal, Gate}
 

@@ -7,7 +7,7 @@
 --   mem_refused    how often memory was refused
 --   IsNew          it is new: these files, these calls to fail, and no call yet
 --   IsCounted      a call was counted, and failed exactly where its number is listed
-use Rattle.std.specs.Prelude.{◌≡◌, ℕ, ◌+◌, ◌≤◌, List, ◌∷◌, [], length, take, Bool, true, false, nat_eq, Result}
+use Rattle.std.specs.Prelude.{◌≡◌, ℕ, ◌+◌, ◌≤◌, List, length, take, Bool, true, false, nat_eq, Result}
 use Rattle.std.specs.List.{list_any}
 use Rattle.std.proofs.Common.{subst, sym, arith}
 use Rattle.std.proofs.lemmas.List.{take_all}

@@ -4,7 +4,7 @@
 --   mem_reads     how many reads were made of it; the number stands still at 2 ^ 64 - 1
 --   IsNewSource   it is new: these bytes, at most so many a read, and these reads to fail
 --   IsRead        a read was counted, and failed exactly where its number is listed
-use Rattle.std.specs.Prelude.{◌≡◌, ℕ, ◌+◌, ◌-◌, ◌^◌, min, List, length, drop, Bool, true, false, Result}
+use Rattle.std.specs.Prelude.{◌≡◌, ℕ, ◌+◌, ◌-◌, ◌^◌, min, List, length, drop, true, false, Result}
 use Rattle.bk_desk.specs.declared.mem_source.MemSource.{MemSource}
 use Rattle.bk_desk.specs.Mem.{is_listed}
 

@@ -1,11 +1,9 @@
 -- What is read with a cap says what stands there.
-use Rattle.std.proofs.Common.{◌≡◌, ◌≤◌, ℕ, List, [], ◌∷◌, length, Bool, true, false, cond, leb, Option, Some, None, refl, sym, ◌∙◌, ap, subst, arith}
+use Rattle.std.proofs.Common.{◌≡◌, ℕ, List, length, Bool, true, false, leb, Option, Some, None, refl, sym, arith}
 use Rattle.std.specs.Prelude.{nat_eq}
-use Rattle.std.specs.Cmp.Lexicographic.{pointwise, bytes_decides, unequal}
-use Rattle.std.proofs.lemmas.Bool.{leb-true, leb-false}
-use Rattle.bk_desk.specs.declared.desk.Got.{Got}
+use Rattle.std.specs.Cmp.Lexicographic.{pointwise, unequal}
+use Rattle.std.proofs.lemmas.Bool.{leb-false}
 use Rattle.bk_desk.specs.Disk.{got_of}
-use Rattle.jr_form.specs.declared.item.Item.{Item}
 use Rattle.jr_form.specs.Reading.{reading}
 use Rattle.jr_burst.specs.SavedFiles.{open_text, is_open_gate, items_in}
 use Rattle.jr_burst.specs.Recover.{got_is_open, items_got}

@@ -1,5 +1,5 @@
 -- Crashes while files are written and removed under an open gate, and while the gate is closed.
-use Rattle.std.proofs.Common.{◌≡◌, ◌≤◌, ◌<◌, ◌+◌, length, drop, get_or, inl, inr, ℕ, List, [], ◌∷◌, Bool, true, false, ◌||◌, cond, Option, Some, None, refl, sym, ◌∙◌, ap, subst}
+use Rattle.std.proofs.Common.{◌≡◌, ◌≤◌, ◌<◌, ◌+◌, length, drop, get_or, inr, ℕ, List, [], ◌∷◌, Bool, true, false, Option, Some, None, refl, sym, ◌∙◌, ap, subst}
 use Rattle.std.specs.Prelude.{IsTrue, nat_eq}
 use Rattle.std.proofs.Math.Path.{fun_ext}
 use Rattle.std.specs.Cmp.Lexicographic.{pointwise, bytes_decides}
@@ -10,7 +10,7 @@ use Rattle.bk_desk.specs.Disk.{DiskImage, DiskState, CrashState, IsCrashState, W
 use Rattle.bk_desk.specs.CrashPoints.{Elapses, AtEachCrash}
 use Rattle.bk_desk.proofs.CrashPoints.{started, goes_on}
 use Rattle.jr_form.specs.declared.item.Item.{Item}
-use Rattle.jr_burst.specs.SavedFiles.{Files, book_files, changed, overlaid, names, is_open_gate, items_in, laid_over, recovered_files}
+use Rattle.jr_burst.specs.SavedFiles.{Files, book_files, overlaid, names, is_open_gate, items_in, laid_over, recovered_files}
 use Rattle.jr_burst.specs.Commit.{HasOpenJournal, IsCarriedOut, Leaves, RecoversTo, IsOldOrNew}
 use Rattle.jr_burst.proofs.Overlay.{overlaid_same, overlaid_other, overlaid_twice, changed_by}
 use Rattle.jr_burst.proofs.Recovering.{open_recovers, closed_recovers}

@@ -1,11 +1,10 @@
 -- What disks stand for, computed on small cases, right and wrong.
-use Rattle.std.proofs.Common.{◌≡◌, ℕ, List, [], ◌∷◌, Bool, true, false, Option, Some, None, refl}
+use Rattle.std.proofs.Common.{◌≡◌, ℕ, List, [], ◌∷◌, true, false, Option, Some, None, refl}
 use Rattle.std.specs.Prelude.{codes}
-use Rattle.bk_desk.specs.declared.desk_name.DeskName.{DeskName}
 use Rattle.bk_desk.specs.declared.desk_name.DeskName.TheVariants.{Book, Journal, Gate}
 use Rattle.bk_desk.specs.Disk.{DiskImage}
 use Rattle.jr_form.specs.declared.item.Item.{Item}
-use Rattle.jr_burst.specs.SavedFiles.{Files, changed, overlaid, names, is_open_gate, recovered_files}
+use Rattle.jr_burst.specs.SavedFiles.{Files, overlaid, names, is_open_gate, recovered_files}
 
 -- `OPEN` alone is an open gate
 is_open_gate-right : is_open_gate (Some (codes "OPEN")) ≡ true

@@ -1,5 +1,5 @@
 -- Crashes while the journal is written and the gate is opened.
-use Rattle.std.proofs.Common.{◌≡◌, ℕ, List, [], ◌∷◌, Bool, Option, Some, None, true, false, refl, sym, ◌∙◌, ap, subst}
+use Rattle.std.proofs.Common.{◌≡◌, ℕ, List, Bool, Option, Some, ◌∙◌, ap}
 use Rattle.std.specs.Prelude.{IsTrue}
 use Rattle.std.proofs.Math.Path.{fun_ext}
 use Rattle.bk_desk.specs.declared.desk_name.DeskName.{DeskName}
@@ -9,7 +9,7 @@ use Rattle.bk_desk.specs.CrashPoints.{Elapses, AtEachCrash}
 use Rattle.bk_desk.proofs.CrashPoints.{started, goes_on}
 use Rattle.jr_form.specs.declared.item.Item.{Item}
 use Rattle.jr_form.specs.Reading.{reading}
-use Rattle.jr_burst.specs.SavedFiles.{book_files, is_open_gate, items_in, open_text}
+use Rattle.jr_burst.specs.SavedFiles.{book_files, is_open_gate, items_in}
 use Rattle.jr_burst.specs.Commit.{IsOldOrNew, IsClosed}
 use Rattle.jr_burst.proofs.Recovering.{old_crash, either_crash}
 

@@ -1,10 +1,9 @@
 -- Files that are overlaid by items.
-use Rattle.std.proofs.Common.{◌≡◌, ◌⊎◌, inl, inr, ℕ, List, [], ◌∷◌, Bool, true, false, ◌||◌, cond, Option, Some, None, refl, sym, ◌∙◌, ap, subst}
+use Rattle.std.proofs.Common.{◌≡◌, ℕ, List, [], ◌∷◌, Bool, true, false, cond, refl, sym, ◌∙◌, subst}
 use Rattle.std.specs.Prelude.{nat_eq}
 use Rattle.std.proofs.Math.Path.{fun_ext}
 use Rattle.std.specs.Cmp.Lexicographic.{pointwise, bytes_decides}
-use Rattle.bk_desk.specs.declared.desk_name.DeskName.{DeskName}
-use Rattle.bk_desk.specs.declared.desk_name.DeskName.TheVariants.{Book, Journal, Gate}
+use Rattle.bk_desk.specs.declared.desk_name.DeskName.TheVariants.{Book}
 use Rattle.bk_desk.specs.Disk.{DiskState, Replaces}
 use Rattle.jr_form.specs.declared.item.Item.{Item}
 use Rattle.jr_burst.specs.SavedFiles.{Files, book_files, changed, overlaid, names}

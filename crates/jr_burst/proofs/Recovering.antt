@@ -1,10 +1,9 @@
 -- What an image recovers to.
-use Rattle.std.proofs.Common.{◌≡◌, ◌⊎◌, inl, inr, ℕ, List, [], ◌∷◌, Bool, true, false, Option, Some, None, refl, sym, ◌∙◌, ap, subst}
-use Rattle.bk_desk.specs.declared.desk_name.DeskName.{DeskName}
+use Rattle.std.proofs.Common.{◌≡◌, inl, inr, ℕ, List, Bool, true, false, Some, refl, sym, ◌∙◌, ap}
 use Rattle.bk_desk.specs.declared.desk_name.DeskName.TheVariants.{Book, Journal, Gate}
 use Rattle.bk_desk.specs.Disk.{DiskImage, DiskState, CrashState, MayLeave, IsCrashImage}
 use Rattle.jr_form.specs.declared.item.Item.{Item}
-use Rattle.jr_burst.specs.SavedFiles.{Files, book_files, overlaid, is_open_gate, items_in, laid_over, recovered_files}
+use Rattle.jr_burst.specs.SavedFiles.{Files, book_files, overlaid, is_open_gate, items_in, recovered_files}
 use Rattle.jr_burst.specs.Commit.{IsOldOrNew, IsClosed}
 
 pub closed_recovers : (image : DiskImage) → is_open_gate (image Gate) ≡ false → recovered_files image ≡ Some (book_files image)

@@ -6,7 +6,7 @@
 --   RecoversTo        a crash from then on: these files are recovered
 --   IsCarriedOut      the files stand as the journal says
 --   Leaves            what a part of a commit leaves
-use Rattle.std.specs.Prelude.{◌≡◌, ◌⊎◌, ℕ, List, true, false, Option, Some}
+use Rattle.std.specs.Prelude.{◌≡◌, ◌⊎◌, ℕ, List, true, false, Some}
 use Rattle.bk_desk.specs.declared.desk_name.DeskName.TheVariants.{Book, Journal, Gate}
 use Rattle.bk_desk.specs.Disk.{DiskImage, DiskState, CrashState, MayLeave, IsCrashImage, NothingPending}
 use Rattle.jr_form.specs.declared.item.Item.{Item}

@@ -4,9 +4,8 @@
 --   IsStartOrRecovered  a crash at any point of a recovery
 --   IsRecovered         what it leaves
 --   IsOnlySynced        nothing was written
-use Rattle.std.specs.Prelude.{◌≡◌, ◌⊎◌, ℕ, ◌≤◌, List, Bool, true, false, nat_eq, Option, Some, None, Result, IfSome, IsErrOf}
+use Rattle.std.specs.Prelude.{◌≡◌, ◌⊎◌, ℕ, List, Bool, true, false, nat_eq, Option, Some, None, IfSome}
 use Rattle.std.specs.Cmp.Lexicographic.{pointwise}
-use Rattle.bk_desk.specs.declared.desk_name.DeskName.{DeskName}
 use Rattle.bk_desk.specs.declared.desk_name.DeskName.TheVariants.{Book, Journal, Gate}
 use Rattle.bk_desk.specs.declared.desk.DeskErr.{DeskErr}
 use Rattle.bk_desk.specs.declared.desk.DeskErr.TheVariants.{Failed, NoMemory}
@@ -17,7 +16,7 @@ use Rattle.jr_form.specs.declared.item.Item.{Item}
 use Rattle.jr_form.specs.Reading.{reading}
 use Rattle.jr_burst.specs.declared.recovery.RecoverFault.{RecoverFault}
 use Rattle.jr_burst.specs.declared.recovery.RecoverFault.TheVariants as faults
-use Rattle.jr_burst.specs.SavedFiles.{Files, book_files, names, open_text, is_open_gate, items_in, recovered_files}
+use Rattle.jr_burst.specs.SavedFiles.{book_files, names, open_text, is_open_gate, items_in, recovered_files}
 
 -- whether what a read of the gate gave is an open one
 abbrev pub got_is_open : Got → Bool

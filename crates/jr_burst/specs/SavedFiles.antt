@@ -5,9 +5,8 @@
 --   is_open_gate      the commit marker is open: its file holds `OPEN`
 --   items_in          the items of a journal file, where it has a reading
 --   recovered_files   what a disk image stands for; none where it is damaged
-use Rattle.std.specs.Prelude.{ℕ, List, [], ◌∷◌, Bool, true, false, ◌||◌, nat_eq, if◌then◌else◌, Option, Some, None}
+use Rattle.std.specs.Prelude.{ℕ, List, [], ◌∷◌, Bool, false, ◌||◌, nat_eq, if◌then◌else◌, Option, Some, None}
 use Rattle.std.specs.Cmp.Lexicographic.{pointwise}
-use Rattle.bk_desk.specs.declared.desk_name.DeskName.{DeskName}
 use Rattle.bk_desk.specs.declared.desk_name.DeskName.TheVariants.{Book, Journal, Gate}
 use Rattle.bk_desk.specs.Disk.{DiskImage}
 use Rattle.jr_form.specs.declared.item.Item.{Item}

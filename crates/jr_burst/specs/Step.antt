@@ -1,5 +1,5 @@
 -- A step of a save as an item of its journal; of this project.
-use Rattle.std.specs.Prelude.{◌≡◌, ℕ, List, [], Option, Some, None}
+use Rattle.std.specs.Prelude.{◌≡◌, ℕ, List, []}
 use Rattle.bk_desk.specs.declared.desk_name.DeskName.{DeskName}
 use Rattle.bk_desk.specs.declared.desk_name.DeskName.TheVariants.{Book, Journal, Gate}
 use Rattle.jr_form.specs.declared.item.Item.{Item}

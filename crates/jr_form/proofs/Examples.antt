@@ -1,8 +1,8 @@
 -- The journal computed on the example of its format, and on wrong cases.
-use Rattle.std.proofs.Common.{◌≡◌, ℕ, List, [], ◌∷◌, ◌++◌, Bool, true, false, Option, Some, None, refl}
+use Rattle.std.proofs.Common.{◌≡◌, [], ◌∷◌, ◌++◌, true, false, Some, None, refl}
 use Rattle.std.specs.Prelude.{codes}
 use Rattle.jr_form.specs.declared.item.Item.{Item}
-use Rattle.jr_form.specs.Journal.{entry, spelling, comes_after, file_size}
+use Rattle.jr_form.specs.Journal.{entry, spelling, comes_after}
 use Rattle.jr_form.specs.Condition.{ascends, files_fit}
 use Rattle.jr_form.specs.Reading.{mark_at, reading}
 

@@ -1,16 +1,15 @@
 -- The two laws: what is read is spelled so, and what is spelled so is read.
-use Rattle.std.proofs.Common.{◌≡◌, ℕ, zero, suc, ◌+◌, ◌^◌, ◌<◌, ◌≤◌, Bool, true, false, not, ◌&&◌, cond, ltb, leb, eqb, List, [], ◌∷◌, ◌++◌, length, get_or, take, drop, Option, Some, None, refl, sym, ap, subst, ◌∙◌, append_assoc, length-append, arith}
-use Rattle.std.specs.Prelude.{IfSome, IsTrue, nat_eq, nat_le}
+use Rattle.std.proofs.Common.{◌≡◌, ℕ, zero, suc, ◌^◌, ◌≤◌, Bool, true, false, ◌&&◌, cond, leb, eqb, List, [], ◌∷◌, ◌++◌, length, Option, Some, None, refl, sym, ap, subst, ◌∙◌, append_assoc, arith}
+use Rattle.std.specs.Prelude.{IfSome, nat_eq}
 use Rattle.std.specs.List.{flat_map, AllByRecursion}
 use Rattle.std.specs.Int.{w16, w32, to_be_bytes}
 use Rattle.std.specs.Cmp.Lexicographic.{pointwise, bytes_decides}
 use Rattle.std.proofs.lemmas.Bool.{eqb-true, leb-true, le-leb}
-use Rattle.std.proofs.lemmas.Bool.Decides.{nat_tests}
 use Rattle.std.proofs.lemmas.List.{append-nil, nil_from_length}
 use Rattle.std.proofs.lemmas.List.Concat.{flat_map-cons}
 use Rattle.bk_name.specs.FileName.{is_file_name}
 use Rattle.jr_form.specs.declared.item.Item.{Item}
-use Rattle.jr_form.specs.Journal.{mark, kind, content, name_field, entry, spelling, comes_after, Ascend, Fits, AreItems, IsJournal}
+use Rattle.jr_form.specs.Journal.{mark, name_field, entry, spelling, comes_after, Ascend, Fits, IsJournal}
 use Rattle.jr_form.specs.Reading.{◌>>=◌, bytes_at, number_at, name_at, file_at, item_at, items_at, mark_at, reading}
 use Rattle.jr_form.proofs.Fields.{IsBytes, bind_some, guard, some_is, Takes, Takes-then, wide16, wide32, number_takes, number_again, bytes_take, bytes_again}
 

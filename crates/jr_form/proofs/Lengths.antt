@@ -1,11 +1,10 @@
 -- How long a journal is.
-use Rattle.std.proofs.Common.{◌≡◌, ℕ, zero, suc, subst, ◌+◌, ◌*◌, ◌<◌, ◌≤◌, Bool, List, [], ◌∷◌, ◌++◌, length, get_or, Option, Some, None, refl, sym, ap, ◌∙◌, length-append, arith}
-use Rattle.std.specs.Prelude.{IsTrue}
+use Rattle.std.proofs.Common.{◌≡◌, ℕ, zero, suc, subst, ◌+◌, ◌*◌, ◌<◌, ◌≤◌, List, [], ◌∷◌, ◌++◌, length, get_or, Option, Some, None, sym, ap, length-append, arith}
 use Rattle.std.specs.List.{flat_map, AllByRecursion}
 use Rattle.std.specs.Int.{w16, w32, to_be_bytes}
 use Rattle.std.proofs.lemmas.List.Concat.{flat_map-cons}
 use Rattle.jr_form.specs.declared.item.Item.{Item}
-use Rattle.jr_form.specs.Journal.{mark, content, name_field, entry, spelling, file_size, total_size, IsNamed, FileFits, Fits, AreItems, AreWritable, IsJournal}
+use Rattle.jr_form.specs.Journal.{mark, content, name_field, entry, spelling, file_size, total_size, IsNamed, FileFits, Fits, AreWritable, IsJournal}
 use Rattle.jr_form.proofs.Items.{length-name}
 
 length-content : (file : Option (List ℕ)) → length (content file) ≤ 4 + file_size file

@@ -3,7 +3,7 @@
 --
 --   Gives       a reader answers what a definition gives, or that memory was wanting
 --   reading     the items that all of the bytes spell, where they spell any
-use Rattle.std.specs.Prelude.{◌≡◌, ℕ, zero, suc, List, [], ◌∷◌, length, take, drop, true, Option, Some, None, Result, Ok, Err, Bool, nat_lt, nat_le, nat_eq, ◌&&◌, if◌then◌else◌}
+use Rattle.std.specs.Prelude.{◌≡◌, ℕ, zero, suc, List, [], ◌∷◌, length, take, drop, Option, Some, None, Result, Ok, Err, nat_lt, nat_le, nat_eq, ◌&&◌, if◌then◌else◌}
 use Rattle.std.specs.Int.{Width, w16, w32, byte_len, from_be_bytes}
 use Rattle.std.specs.Cmp.Lexicographic.{pointwise}
 use Rattle.bk_name.specs.FileName.{is_file_name}

@@ -1,12 +1,9 @@
-use Rattle.std.proofs.Common.{◌≡◌, ◌+◌, [], ◌∷◌, ◌++◌, List, ℕ, Option, cond, take, sym, ◌∙◌, ap}
+use Rattle.std.proofs.Common.{◌≡◌, ◌+◌, [], ◌∷◌, ◌++◌, take, sym, ◌∙◌, ap}
 use Rattle.std.proofs.lemmas.List.{take_more}
-use Rattle.std.specs.Option.{option_map}
-use Rattle.bk_desk.specs.declared.log.Call.{Call}
-use Rattle.bk_desk.specs.Disk.{DiskState, DiskImage}
+use Rattle.bk_desk.specs.Disk.{DiskState}
 use Rattle.bk_desk.specs.Calls.{after, opening, file_after}
-use Rattle.bk_desk.specs.Left.{is_sync, synced_files}
 use Rattle.bk_desk.proofs.Calls.{after-push}
-use Rattle.bk_desk.proofs.StopLemmas.{synced_files-push, one_synced}
+use Rattle.bk_desk.proofs.StopLemmas.{one_synced}
 use Rattle.bk_desk.proofs.stop.synced_file.Goals as goal
 
 pub loop-call-preserved : goal.loop-call-preserved

@@ -3,7 +3,7 @@ use Rattle.bk_desk.proofs.CrashPoints.{joined, weaker}
 use Rattle.jr_form.specs.declared.item.Item.{Item}
 use Rattle.bk_desk.specs.CrashPoints.{AtEachCrash}
 use Rattle.jr_burst.specs.SavedFiles.{overlaid, book_files}
-use Rattle.jr_burst.specs.Commit.{IsOldOrNew, Leaves, RecoversTo}
+use Rattle.jr_burst.specs.Commit.{Leaves, RecoversTo}
 use Rattle.jr_burst.proofs.Carrying.{written_is_new, closing_is_new}
 use Rattle.jr_burst.proofs.atomic_commit.commit.Goals as goal
 

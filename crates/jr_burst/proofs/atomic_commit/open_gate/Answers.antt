@@ -1,8 +1,5 @@
 use Rattle.std.proofs.Common.{◌≡◌, Some, ◌∙◌, ap}
 use Rattle.jr_form.specs.Reading.{reading}
-use Rattle.bk_desk.specs.Disk.{Replaces}
-use Rattle.bk_desk.specs.CrashPoints.{AtEachCrash}
-use Rattle.jr_burst.specs.Commit.{IsOldOrNew}
 use Rattle.jr_burst.proofs.Opening.{journal_written, journal_synced, gate_written, gate_synced, is_staged}
 use Rattle.jr_burst.proofs.atomic_commit.open_gate.Goals as goal
 

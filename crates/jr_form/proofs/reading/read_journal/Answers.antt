@@ -1,4 +1,4 @@
-use Rattle.std.proofs.Common.{◌≡◌, None, Some, sym, ◌∙◌, arith}
+use Rattle.std.proofs.Common.{◌≡◌, None, Some, arith}
 use Rattle.jr_form.specs.Reading.{reading}
 use Rattle.jr_form.proofs.Items.{reading_takes, reading_again}
 use Rattle.jr_form.proofs.reading.read_journal.Goals as goal

@@ -1,12 +1,12 @@
-use Rattle.std.proofs.Common.{◌≡◌, ◌++◌, ◌∷◌, [], List, ap, sym, subst, ◌∙◌, ◌+◌, length, take}
-use Rattle.std.proofs.lemmas.List.{take_all, take_more}
+use Rattle.std.proofs.Common.{◌≡◌, ◌++◌, List, ap, subst, ◌∙◌, length, take}
+use Rattle.std.proofs.lemmas.List.{take_all}
 use Rattle.std.specs.Int.{w32, to_be_bytes}
 use Rattle.std.specs.List.{flat_map, AllByRecursion}
 use Rattle.jr_form.specs.declared.item.Item.{Item}
 use Rattle.jr_form.specs.Journal.{mark, entry, spelling, FileFits, IsNamed, IsJournal}
 use Rattle.jr_form.proofs.writing.write_journal.Goals as goal
 use Rattle.jr_form.proofs.Items.{reading_again}
-use Rattle.jr_form.proofs.Lengths.{is_journal, all_at, all-push}
+use Rattle.jr_form.proofs.Lengths.{is_journal, all_at}
 
 pub put_item-requires : goal.put_item-requires
 put_item-requires c = record { fits = all_at FileFits c.args.items.now c.loop-item.item-index _ c.requires.fits.files c.loop-item-test.true c.item-item.is }

@@ -1,6 +1,6 @@
-use Rattle.std.proofs.Common.{◌≡◌, ◌++◌, ◌∷◌, [], ap, sym, ◌∙◌, length, take}
+use Rattle.std.proofs.Common.{[], ap, sym, ◌∙◌}
 use Rattle.bk_desk.specs.Calls.{told_after, told_by}
-use Rattle.bk_desk.proofs.Calls.{told_by-push, told_before}
+use Rattle.bk_desk.proofs.Calls.{told_by-push}
 use Rattle.bk_desk.proofs.log.Log.add.Goals as goal
 
 pub invariant_of-self-in-Ok : goal.invariant_of-self-in-Ok
