@@ -1,0 +1,6 @@
+pub mod CrashPoints
+pub mod Names
+pub mod Calls
+pub mod Sources
+pub mod StopLemmas
+pub mod Examples

@@ -1,0 +1,12 @@
+pub mod DeskNames
+pub mod Disk
+pub mod CrashPoints
+pub mod Cause
+pub mod Source
+pub mod Calls
+pub mod Mem
+pub mod MemSource
+pub mod StdSource
+pub mod Left
+pub mod Covers
+pub mod MemLeft
