@@ -1,0 +1,6 @@
+pub mod TextValue
+pub mod Words
+pub mod Output
+pub mod Printing
+pub mod Silent
+pub mod Effects
