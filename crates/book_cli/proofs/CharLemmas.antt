@@ -1,4 +1,4 @@
--- A reference stands for one character at most.
+-- The character that a reference stands for.
 use Rattle.std.proofs.Common.{◌≡◌, ◌≢◌, ◌∙◌, ℕ, List, [], ◌∷◌, ◌++◌, take, drop, length, refl, sym, ap, arith, true, false, Bool, codes, nat_eq, inl, inr, ◌⊎◌}
 use Rattle.std.proofs.lemmas.Bool.{and_parts}
 use Rattle.std.proofs.lemmas.Bool.Decides.{nat_tests}
@@ -6,9 +6,10 @@ use Rattle.std.specs.List.{list_all, starts_with}
 use Rattle.std.specs.Str.{IsUtf8}
 use Rattle.xt_spec.specs.Token.{char_ref}
 use Rattle.xt_lex.proofs.Utf8.{ascii}
-use Rattle.xt_lex.proofs.Texts.{spells_utf8}
+use Rattle.xt_lex.proofs.Theorems.{spells_utf8}
 use Rattle.xt_spec.specs.Reference.{StandsFor, is_decimal_digit, is_hexadecimal_digit, number_behind}
-use Rattle.book_cli.specs.TextValue.{char_of, before_semicolon, is_no_semicolon}
+use Rattle.book_cli.specs.TextValue.{char_of, before_semicolon}
+use Rattle.book_cli.specs.ValueParts.{is_no_semicolon}
 use Rattle.book_cli.proofs.ValueLemmas.{digits_have_no_semicolon, hexadecimal_digits_have_no_semicolon}
 
 before_front : (front rest : List ℕ) → list_all is_no_semicolon front ≡ true → before_semicolon (front ++ 0x3B ∷ rest) ≡ front
@@ -38,9 +39,6 @@ stands_char text c (inr (inr (inl (e, is)))) = rw e is
 stands_char text c (inr (inr (inr (inl (e, is))))) = rw e is
 stands_char text c (inr (inr (inr (inr (inl (e, is)))))) = rw e is
 stands_char text c (inr (inr (inr (inr (inr (e, is)))))) = rw e is
-
-pub stands_one : (text : List ℕ) (c d : ℕ) → StandsFor text c → StandsFor text d → c ≡ d
-stands_one text c d first second = stands_char text c first ∙ sym (stands_char text d second)
 
 -- what stands for a character is text
 pub stands_utf8 : (text : List ℕ) (c : ℕ) → StandsFor text c → IsUtf8 text

@@ -2,9 +2,9 @@ pub mod ValueLemmas
 pub mod CharLemmas
 pub mod ReferenceLemmas
 pub mod TextLemmas
-pub mod TagLemmas
 pub mod PlaceLemmas
 pub mod TreeLemmas
 pub mod ItemLemmas
 pub mod NodeLemmas
 pub mod RunLemmas
+pub mod UniqueLemmas

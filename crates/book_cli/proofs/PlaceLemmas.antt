@@ -1,5 +1,5 @@
 -- What stands at the spans of a tag's parts.
-use Rattle.std.proofs.Common.{◌≡◌, ◌∙◌, ℕ, ◌<◌, ◌≤◌, ◌+◌, ◌-◌, List, [], ◌∷◌, ◌++◌, map, take, drop, length, refl, sym, ap, subst, arith, append_assoc, length-append, Option, Some, None, codes, Bool, true, false, not, ◌==◌, ◌&&◌}
+use Rattle.std.proofs.Common.{inl, inr, ◌≡◌, ◌∙◌, ℕ, ◌<◌, ◌≤◌, ◌+◌, ◌-◌, List, [], ◌∷◌, ◌++◌, map, take, drop, length, refl, sym, ap, subst, arith, append_assoc, length-append, Option, Some, None, codes, Bool, true, false, not, ◌==◌, ◌&&◌}
 use Rattle.std.proofs.lemmas.Bool.{and_parts}
 use Rattle.std.proofs.lemmas.List.{take-append-drop, take_all, append_cancel_left}
 use Rattle.std.proofs.lemmas.List.Folds.{list_all-append}
@@ -11,13 +11,13 @@ use Rattle.bk_spec.specs.Node.{Attr, Head}
 use Rattle.bk_spec.specs.PlainNodes.{GivesAttributes, GivesHead, plain_head}
 use Rattle.xt_lex.specs.declared.token.Span.{Span}
 use Rattle.xt_lex.specs.declared.attribute.AttrSrc.{AttrSrc}
-use Rattle.xt_lex.specs.Place.{AreSpansOf}
+use Rattle.xt_lex.specs.Place.{AreSpansOf, EndsTag}
 use Rattle.xt_tree.specs.declared.source.Tag.{Tag as TagSrc}
 use Rattle.xt_tree.specs.Meaning.{at_span}
 use Rattle.xt_tree.specs.Places.{ending, IsTagAt, IsSpanAt, AreAttributesAt}
-use Rattle.book_cli.specs.TextValue.{has_no_cr}
+use Rattle.book_cli.specs.ValueParts.{has_no_cr}
 use Rattle.book_cli.specs.Printing.{attribute_at}
-use Rattle.book_cli.proofs.TagLemmas.{IsEnding, tag_one, ends_start, ends_empty}
+use Rattle.xt_lex.proofs.Theorems.{tag_unique}
 
 -- no CR is in a part of bytes that have none
 no_cr_drop : (n : ℕ) (bytes : List ℕ) → has_no_cr bytes ≡ true → has_no_cr (drop n bytes) ≡ true
@@ -78,13 +78,13 @@ attributes_at bytes (a ∷ attributes) (s ∷ sources) rest at attrs are e (valu
     let inner = attributes_at bytes attributes sources rest (at + length (attribute_text a)) more are.1 (behind_front bytes (attribute_text a) tail at front) others in
     (value, more, rw quoted has, inner, rw name is)
 
-ending_ends : (empty : Bool) → IsEnding (ending empty)
-ending_ends true = ends_empty
-ending_ends false = ends_start
+ending_ends : (empty : Bool) → EndsTag (ending empty)
+ending_ends true = inr refl
+ending_ends false = inl refl
 
-close_ends : (close : Option (List ℕ)) → IsEnding (tag_ending close)
-close_ends None = ends_empty
-close_ends (Some text) = ends_start
+close_ends : (close : Option (List ℕ)) → EndsTag (tag_ending close)
+close_ends None = inr refl
+close_ends (Some text) = inl refl
 
 tag_parts : (front name attributes blank end rest : List ℕ) → (front ++ name ++ attributes ++ blank ++ end) ++ rest ≡ front ++ (name ++ (attributes ++ (blank ++ (end ++ rest))))
 tag_parts front name attributes blank end rest = simp append_assoc
@@ -94,7 +94,7 @@ pub head_at : (bytes file uri : List ℕ) (at : ℕ) (source : TagSrc) (close : 
     → (attrs : List Attr) × GivesAttributes (map (attribute_at bytes) source.attrs) attrs × (head ≡ plain_head file uri (at_span bytes source.name) attrs)
 head_at bytes file uri at source close head stands (tag, attrs, is_tag, spelled, gives, is) =
     let texts = sym spelled ∙ stands.spelled in
-    let same = tag_one tag stands.tag (tag_ending close) (ending source.empty) is_tag stands.parts (close_ends close) (ending_ends source.empty) texts in
+    let same = (tag_unique tag stands.tag (tag_ending close) (ending source.empty) (close_ends close) (ending_ends source.empty) is_tag stands.parts texts).0 in
     let text = tag_text stands.tag (ending source.empty) in
     let whole : drop at bytes ≡ text ++ drop (length text) (drop at bytes) =
     whole_at bytes text at source.span.to stands.whole.1 (rw (← stands.whole.0) stands.spelled) in
@@ -106,6 +106,6 @@ head_at bytes file uri at source close head stands (tag, attrs, is_tag, spelled,
     let behind_name : drop (at + 1 + length stands.tag.name) bytes ≡ attributes ++ (stands.tag.blank ++ (ending source.empty ++ rest)) =
     behind_front bytes stands.tag.name _ (at + 1) (behind_front bytes (codes "<") _ at in_parts) in (
       attrs,
-      attributes_at bytes stands.tag.attributes source.attrs _ (at + 1 + length stands.tag.name) attrs stands.attributes behind_name (rw same.1 at gives),
+      attributes_at bytes stands.tag.attributes source.attrs _ (at + 1 + length stands.tag.name) attrs stands.attributes behind_name (subst (λ (t : Tag). GivesAttributes t.attributes attrs) same gives),
       rw (name ∙ sym same.0) is,
     )

@@ -6,7 +6,7 @@ use Rattle.bk_spec.specs.Print.{quoted_byte}
 use Rattle.book_cli.specs.declared.value.Within.{Within}
 use Rattle.book_cli.specs.Printing.{escaped, PrintsValue}
 use Rattle.book_cli.proofs.ValueLemmas.{value_reference, CutsReference}
-use Rattle.book_cli.proofs.CharLemmas.{stands_one}
+use Rattle.xt_lex.proofs.Theorems.{stands_unique}
 
 char_prints : (char c : ℕ) (others value old new : List ℕ) → char ≡ c → value ≡ encode_utf8 char ++ others → new ≡ old ++ escaped (encode_utf8 c) → old ++ escaped value ≡ new ++ escaped others
 char_prints char c others value old new same parts is =
@@ -17,7 +17,7 @@ pub reference_prints : (within : Within) (text bytes reference rest old new : Li
 reference_prints within text bytes reference rest old new c begins cuts stands is value has =
     let front = value_reference within bytes value (rw begins at has) in
     let cut = cuts front.front front.rest front.first (begins ∙ front.cut) in
-    let same : front.char ≡ c = stands_one (front.front ++ 0x3B ∷ []) front.char c front.stands (rw cut.0 at stands) in
+    let same : front.char ≡ c = stands_unique (front.front ++ 0x3B ∷ []) front.char c front.stands (rw cut.0 at stands) in
     (front.others, rw cut.1 front.has_others, char_prints front.char c front.others value old new same front.value_is is)
 
 -- what stands for no character is at the front of no text that has a value

@@ -17,7 +17,7 @@ use Rattle.xt_spec.specs.Text.{TextPart, data_part, reference_part, parts_text, 
 use Rattle.xt_spec.specs.Value.{AreValueParts, value_of_parts, HasAttributeValue, spaced}
 use Rattle.book_cli.specs.declared.value.Within.{Within}
 use Rattle.book_cli.specs.declared.value.Within.TheVariants.{Content, Value}
-use Rattle.book_cli.specs.TextValue.{counted, has_no_cr, is_no_ampersand, AreParts, parts_counted, HasValue}
+use Rattle.book_cli.specs.ValueParts.{counted, has_no_cr, is_no_ampersand, AreParts, parts_counted, HasValue}
 
 is_no_cr : ℕ → Bool
 is_no_cr b = not (b == 0xD)
@@ -58,18 +58,23 @@ value_pass q (c ∷ cs) all =
     let ampersand = and_parts (is_char c && not (c == 0x3C)) (not (c == 0x26)) quote.0 in
     (test_fails c ampersand.1, value_pass q cs both.1)
 
+-- no `&` is among character data, nor among the characters of an attribute value
+pub data_is_plain : (text : List ℕ) → Spells char_data text → list_all is_no_ampersand text ≡ true
+data_is_plain text spelt = chars_plain text (spelt.0, sym spelt.3, plain_pass spelt.0 spelt.2)
+
+pub value_data_is_plain : (q : ℕ) (text : List ℕ) → IsSpeltBy (λ cs. list_all (is_value_char q) cs) text → list_all is_no_ampersand text ≡ true
+value_data_is_plain q text spelt = chars_plain text (spelt.0, spelt.1, value_pass q spelt.0 spelt.2)
+
 text_parts : (parts : List TextPart) → AreTextParts parts → AreParts parts
 text_parts [] are = tt
 text_parts (data_part text ∷ parts) are =
-    let spelt = are.0 in
-    (chars_plain text (spelt.0, sym spelt.3, plain_pass spelt.0 spelt.2), text_parts parts are.2)
+    (data_is_plain text are.0, text_parts parts are.2)
 text_parts (reference_part text c ∷ parts) are = (are.0, text_parts parts are.1)
 
 value_parts : (q : ℕ) (parts : List TextPart) → AreValueParts q parts → AreParts parts
 value_parts q [] are = tt
 value_parts q (data_part text ∷ parts) are =
-    let spelt = are.0 in
-    (chars_plain text (spelt.0, spelt.1, value_pass q spelt.0 spelt.2), value_parts q parts are.3)
+    (value_data_is_plain q text are.0, value_parts q parts are.3)
 value_parts q (reference_part text c ∷ parts) are = (are.0, value_parts q parts are.1)
 
 counted_content : (bytes : List ℕ) → map (counted Content) bytes ≡ bytes

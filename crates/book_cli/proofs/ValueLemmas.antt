@@ -15,7 +15,7 @@ use Rattle.xt_spec.specs.Text.{TextPart, data_part, reference_part, parts_text}
 use Rattle.bk_spec.specs.Print.{quoted_byte}
 use Rattle.book_cli.specs.declared.value.Within.{Within}
 use Rattle.book_cli.specs.declared.value.Within.TheVariants.{Content, Value}
-use Rattle.book_cli.specs.TextValue.{counted, is_no_ampersand, is_no_semicolon, AreParts, parts_counted, HasValue}
+use Rattle.book_cli.specs.ValueParts.{counted, is_no_ampersand, is_no_semicolon, AreParts, parts_counted, HasValue}
 use Rattle.book_cli.specs.Printing.{written, escaped, is_unescaped, PrintsValue}
 
 -- an unescaped byte prints itself

@@ -1,3 +1,4 @@
+pub mod ValueParts
 pub mod TextValue
 pub mod Words
 pub mod Output

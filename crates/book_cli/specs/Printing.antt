@@ -15,7 +15,7 @@ use Rattle.xt_lex.specs.declared.attribute.AttrSrc.{AttrSrc}
 use Rattle.xt_tree.specs.Meaning.{at_span}
 use Rattle.xt_tree.specs.Places.{Mark, tag_mark, span_mark, IsTagAt}
 use Rattle.book_cli.specs.declared.value.Within.{Within}
-use Rattle.book_cli.specs.TextValue.{counted, HasValue}
+use Rattle.book_cli.specs.ValueParts.{counted, HasValue}
 
 -- a byte that stands for itself, between quotes of the printed tree
 abbrev pub written : Within → ℕ → List ℕ

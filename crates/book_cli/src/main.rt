@@ -3,9 +3,12 @@
 
 ghost use Rattle.std.specs.Prelude.{◌≡◌};
 
+pub mod laws;
 mod print;
 mod real;
 pub mod run;
+#[cfg(test)]
+mod tests;
 mod value;
 mod words;
 

@@ -10,7 +10,7 @@ ghost use Rattle.bk_spec.specs.Node.{owned};
 ghost use Rattle.bk_spec.specs.Print as page;
 ghost use Rattle.xt_tree.specs.Meaning.{at_span, item_of, items_in};
 ghost use Rattle.xt_tree.specs.Places.{tag_mark, marks_in, marks_of};
-ghost use Rattle.book_cli.specs.TextValue.{has_no_cr};
+ghost use Rattle.book_cli.specs.ValueParts.{has_no_cr};
 ghost use Rattle.book_cli.specs.Printing.{IsIndent, parent_of, head_lines, PrintsItem, PrintsItems, PrintsAttributes, attribute_at, AreTagsInPlace};
 
 use crate::value::{put, put_quoted, put_text};

@@ -12,11 +12,18 @@ use xt_table::Seq;
 const CHUNK: usize = 65_536;
 
 /// Files under the current folder, and an output. It tells nothing of what they hold.
+///
+/// A folder, and a name below a file, reads as absent. What is written, and what is removed, is durable after the next
+/// `sync` that succeeds, with each folder from its own up to the current one. The first `sync` also makes durable what an
+/// earlier run may have left: the two control files, and their folder.
 #[derive(Drop)]
 pub(crate) struct RealDesk<R: Files + Drop, W: Write + Drop> {
     files: R,
     out: W,
     alloc: Global,
+    /// What was written or removed since the last sync.
+    unsynced: Vec<DeskName>,
+    has_synced: bool,
     faults: u64,
     refused: u64,
 }
@@ -73,6 +80,7 @@ fn read_up_to<F: Read>(alloc: Global, file: &mut F, most: usize) -> io::Result<V
 /// Writes some of the bytes.
 fn write_some<W: Write>(out: &mut W, bytes: &[u8]) -> io::Result<usize>
     ensures fits { IfOk result (λ count. count ≤ length bytes.now) }
+    ensures some { IfOk result (λ count. 1 ≤ count) }
 {
     for _ in 0..u64::MAX {
         match out.write(bytes) {
@@ -86,6 +94,32 @@ fn write_some<W: Write>(out: &mut W, bytes: &[u8]) -> io::Result<usize>
         }
     }
     Err(io::Error::from(ErrorKind::Interrupted))
+}
+
+/// Makes a file or a folder durable, where it is there.
+fn sync_one<R: Files>(files: &R, path: &str) -> io::Result<()> {
+    match File::open(files, path) {
+        Ok(file) => file.sync_all(),
+        Err(error) => {
+            if is_absence(&error) {
+                return Ok(());
+            }
+            Err(error)
+        }
+    }
+}
+
+/// Makes a file durable, and each folder from its own up to the current one.
+fn sync_path<R: Files>(files: &R, path: &str) -> io::Result<()> {
+    sync_one(files, path)?;
+    for at in 0..path.len() {
+        if path.as_bytes()[at] == b'/'
+            && let Some(folder) = path.get(..at)
+        {
+            sync_one(files, folder)?;
+        }
+    }
+    sync_one(files, ".")
 }
 
 /// Writes all the bytes, and flushes them.
@@ -104,6 +138,8 @@ impl<R: Files + Drop, W: Write + Drop> RealDesk<R, W> {
             files,
             out,
             alloc,
+            unsynced: Vec::new(alloc),
+            has_synced: false,
             faults: 0,
             refused: 0,
         }
@@ -120,6 +156,49 @@ impl<R: Files + Drop, W: Write + Drop> RealDesk<R, W> {
         }
         self.faults = self.faults.saturating_add(1);
         DeskErr::Failed
+    }
+
+    fn put(&mut self, name: &DeskName, bytes: &[u8]) -> io::Result<()>
+        ensures same { (self.new.faults ≡ self.old.faults) × (self.new.refused ≡ self.old.refused) }
+    {
+        self.unsynced.push(name.share()?)?;
+        let path = path_of(name);
+        if let Some((folder, _)) = path.rsplit_once('/') {
+            fs::create_dir_all(&self.files, folder)?;
+        }
+        let mut file = File::create(&self.files, path)?;
+        write_whole(&mut file, bytes)
+    }
+
+    /// A removal of what isn't there is no fault, and changes nothing.
+    fn take(&mut self, name: &DeskName) -> io::Result<()>
+        ensures same { (self.new.faults ≡ self.old.faults) × (self.new.refused ≡ self.old.refused) }
+    {
+        self.unsynced.push(name.share()?)?;
+        match fs::remove_file(&self.files, path_of(name)) {
+            Ok(()) => Ok(()),
+            Err(error) => {
+                if is_absence(&error) {
+                    return Ok(());
+                }
+                Err(error)
+            }
+        }
+    }
+
+    fn sync_all(&mut self) -> io::Result<()>
+        ensures same { (self.new.faults ≡ self.old.faults) × (self.new.refused ≡ self.old.refused) }
+    {
+        if !self.has_synced {
+            sync_path(&self.files, path_of(&DeskName::Journal))?;
+            sync_path(&self.files, path_of(&DeskName::Gate))?;
+        }
+        for name in &self.unsynced {
+            sync_path(&self.files, path_of(name))?;
+        }
+        self.unsynced.clear();
+        self.has_synced = true;
+        Ok(())
     }
 
     fn bytes_of(&self, name: &DeskName, most: usize) -> io::Result<Vec<u8>> {
@@ -166,18 +245,24 @@ impl<R: Files + Drop, W: Write + Drop> Desk for RealDesk<R, W> {
     }
 
     fn write_file(&mut self, name: &DeskName, bytes: &[u8]) -> Result<(), DeskErr> {
-        self.faults = self.faults.saturating_add(1);
-        Err(DeskErr::Failed)
+        match self.put(name, bytes) {
+            Ok(()) => Ok(()),
+            Err(error) => Err(self.counted(error)),
+        }
     }
 
     fn remove(&mut self, name: &DeskName) -> Result<(), DeskErr> {
-        self.faults = self.faults.saturating_add(1);
-        Err(DeskErr::Failed)
+        match self.take(name) {
+            Ok(()) => Ok(()),
+            Err(error) => Err(self.counted(error)),
+        }
     }
 
     fn sync(&mut self) -> Result<(), DeskErr> {
-        self.faults = self.faults.saturating_add(1);
-        Err(DeskErr::Failed)
+        match self.sync_all() {
+            Ok(()) => Ok(()),
+            Err(error) => Err(self.counted(error)),
+        }
     }
 
     fn tell(&mut self, bytes: &[u8]) -> Result<(), DeskErr> {

@@ -5,7 +5,7 @@ ghost use Rattle.xt_spec.specs.Reference.{StandsFor};
 ghost use Rattle.xt_spec.specs.Value.{HasAttributeValue};
 ghost use Rattle.xt_spec.specs.Text.{HasTextValue};
 ghost use Rattle.memchr.specs.Find.{is_byte};
-ghost use Rattle.book_cli.specs.TextValue.{counted, has_no_cr, is_no_ampersand, is_no_semicolon, HasValue};
+ghost use Rattle.book_cli.specs.ValueParts.{counted, has_no_cr, is_no_ampersand, is_no_semicolon, HasValue};
 ghost use Rattle.book_cli.specs.declared.value.Within.{Within as WithinValue};
 ghost use Rattle.book_cli.specs.Printing.{written, escaped, is_unescaped, PrintsValue};
 

@@ -1,4 +1,4 @@
-use Rattle.book_cli.specs.TextValue.{is_no_ampersand}
+use Rattle.book_cli.specs.ValueParts.{is_no_ampersand}
 use Rattle.book_cli.proofs.ValueLemmas.{prefix_passes}
 use Rattle.book_cli.proofs.value.split_data.Goals as goal
 
