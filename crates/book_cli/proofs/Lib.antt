@@ -8,3 +8,5 @@ pub mod ItemLemmas
 pub mod NodeLemmas
 pub mod RunLemmas
 pub mod UniqueLemmas
+pub mod OutputLemmas
+pub mod Examples

@@ -82,7 +82,7 @@ ending_ends : (empty : Bool) → EndsTag (ending empty)
 ending_ends true = inr refl
 ending_ends false = inl refl
 
-close_ends : (close : Option (List ℕ)) → EndsTag (tag_ending close)
+pub close_ends : (close : Option (List ℕ)) → EndsTag (tag_ending close)
 close_ends None = inr refl
 close_ends (Some text) = inl refl
 
@@ -107,5 +107,5 @@ head_at bytes file uri at source close head stands (tag, attrs, is_tag, spelled,
     behind_front bytes stands.tag.name _ (at + 1) (behind_front bytes (codes "<") _ at in_parts) in (
       attrs,
       attributes_at bytes stands.tag.attributes source.attrs _ (at + 1 + length stands.tag.name) attrs stands.attributes behind_name (subst (λ (t : Tag). GivesAttributes t.attributes attrs) same gives),
-      rw (name ∙ sym same.0) is,
+      rw (name ∙ sym (ap (λ (t : Tag). t.name) same)) is,
     )

@@ -2,6 +2,9 @@
 ghost use Rattle.std.specs.Prelude.{◌≡◌, List, ℕ};
 ghost use Rattle.xt_spec.specs.Text.{HasTextValue};
 ghost use Rattle.xt_spec.specs.Value.{HasAttributeValue};
+ghost use Rattle.xt_spec.specs.Tree.{Items as TreeItems};
+ghost use Rattle.bk_spec.specs.Node.{Nodes};
+ghost use Rattle.bk_spec.specs.PlainNodes.{GivesNodes};
 ghost use Rattle.book_cli.specs.TextValue.{text_value, quoted_value};
 
 /// A text item has one value at most, and it computes.
@@ -12,4 +15,9 @@ pub fn text_has_one_value()
 /// An attribute has one value at most, and it computes.
 pub fn attribute_has_one_value()
     ensures value { (quoted value : List ℕ) → HasAttributeValue quoted value → value ≡ quoted_value quoted }
+{}
+
+/// The items of a file give one list of nodes at most, so they print in one way.
+pub fn items_give_the_same_nodes()
+    ensures value { (file uri : List ℕ) (items : TreeItems) (a b : Nodes) → GivesNodes file uri items a → GivesNodes file uri items b → a ≡ b }
 {}

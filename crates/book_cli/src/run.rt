@@ -163,7 +163,7 @@ fn answer_of_root<D: Desk, L: Ledger>(
     ensures crash { IsTrue D.tells → AtEachCrash D.time D.was desk.old desk.new (IsCrashState (D.standing desk.old)) }
     ensures cause_desk { HasCause (D.faults desk.old) (D.faults desk.new) (IsErrOf result Stop.Fault) }
     ensures count { (steps.old ≤ steps.new) × (steps.new ≤ steps.old + MOST_BYTES) }
-    ensures taken { IsTrue D.tells → TakesSteps (IsOk result) (file_steps ((D.standing desk.old).files (Book root.now))) steps.old steps.new }
+    ensures exact { IsTrue D.tells → TakesSteps (IsOk result) (file_steps ((D.standing desk.old).files (Book root.now))) steps.old steps.new }
 {
     let name = DeskName::Book(root.share()?);
     match desk.read(&name, MOST_BYTES) {
@@ -186,7 +186,7 @@ fn answer_of_words<D: Desk, L: Ledger>(
     ensures crash { IsTrue D.tells → AtEachCrash D.time D.was desk.old desk.new (IsCrashState (D.standing desk.old)) }
     ensures cause_desk { HasCause (D.faults desk.old) (D.faults desk.new) (IsErrOf result Stop.Fault) }
     ensures count { (steps.old ≤ steps.new) × (steps.new ≤ steps.old + MOST_BYTES) }
-    ensures taken { IsTrue D.tells → TakesSteps (IsOk result) (word_steps (map string_bytes words.now) (D.standing desk.old).files) steps.old steps.new }
+    ensures exact { IsTrue D.tells → TakesSteps (IsOk result) (word_steps (map string_bytes words.now) (D.standing desk.old).files) steps.old steps.new }
 {
     match root_of(alloc, words)? {
         Some(root) => answer_of_root(alloc, &root, desk, steps),
@@ -242,7 +242,7 @@ pub fn run<D: Desk, S: Source, L: Ledger>(
     ensures others { script.new ≡ script.old }
     ensures count { (steps.old ≤ steps.new) × (steps.new ≤ steps.old + MOST_BYTES) }
     // A step a byte of the file that was read.
-    ensures taken { IsTrue D.tells → TakesSteps (IsTrue (is_exit_status result)) (word_steps (map string_bytes words.now) (D.standing desk.old).files) steps.old steps.new }
+    ensures exact { IsTrue D.tells → TakesSteps (IsTrue (is_exit_status result)) (word_steps (map string_bytes words.now) (D.standing desk.old).files) steps.old steps.new }
 {
     match answer_of_words(alloc, words, desk, steps) {
         Ok(answer) => told(desk, &answer),

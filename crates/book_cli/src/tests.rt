@@ -103,6 +103,14 @@ fn repeated(
     Ok(text)
 }
 
+fn word_of(alloc: Global, count: usize) -> Result<String, Fail> {
+    let mut word = String::new(alloc);
+    for _ in 0..count {
+        word.push('x')?;
+    }
+    Ok(word)
+}
+
 /// Elements within each other, down to this level, counted from 1.
 fn nested(alloc: Global, levels: usize) -> Result<Vec<u8>, Fail> {
     let mut text = repeated(alloc, "", "<a>", levels, "")?;
@@ -123,7 +131,6 @@ fn nested_tree(alloc: Global, levels: usize) -> Result<Vec<u8>, Fail> {
 #[test]
 fn the_tree_is_told(rt: HostRuntime) -> Result<(), Fail> {
     let alloc = rt.alloc();
-    let base = "  base file:///book/book.xml\n";
     assert!(rt;
         is_tree(
             alloc,
@@ -166,7 +173,6 @@ fn the_tree_is_told(rt: HostRuntime) -> Result<(), Fail> {
             "element a in book.xml\n  base file:///book/book.xml\n  text \"x\" in book.xml\n  element é in book.xml\n    text \"ü\" in book.xml\n  element b in book.xml\n  text \"y\" in book.xml\n"
         )?
     );
-    assert!(rt; base.len() == 29);
     Ok(())
 }
 
@@ -202,34 +208,41 @@ fn what_is_no_plain_document_is_not_yet(rt: HostRuntime) -> Result<(), Fail> {
 }
 
 #[test]
-fn limits_are_exact(rt: HostRuntime) -> Result<(), Fail> {
+fn level_128_opens_and_129_does_not(rt: HostRuntime) -> Result<(), Fail> {
     let alloc = rt.alloc();
     assert!(rt; opens(alloc, &nested(alloc, 128)?, 0, &nested_tree(alloc, 128)?)?);
     assert!(rt; is_not_yet(alloc, &nested(alloc, 129)?)?);
-    let base = "element a in book.xml\n  base file:///book/book.xml\n";
-    let text = repeated(
-        alloc,
-        "element a in book.xml\n  base file:///book/book.xml\n  text \"",
-        "x",
-        4_194_297,
-        "\" in book.xml\n",
-    )?;
+    Ok(())
+}
+
+#[test]
+fn the_longest_file_opens_and_a_longer_one_does_not(rt: HostRuntime) -> Result<(), Fail> {
+    let alloc = rt.alloc();
+    let front = "element a in book.xml\n  base file:///book/book.xml\n  text \"";
+    let tree = repeated(alloc, front, "x", 4_194_297, "\" in book.xml\n")?;
     assert!(rt;
         opens(
             alloc,
             &repeated(alloc, "<a>", "x", 4_194_297, "</a>")?,
             0,
-            &text
+            &tree
         )?
     );
     assert!(rt; is_not_yet(alloc, &repeated(alloc, "<a>", "x", 4_194_298, "</a>")?)?);
-    let nodes = repeated(alloc, base, "  element b in book.xml\n", 999_999, "")?;
+    Ok(())
+}
+
+#[test]
+fn a_million_nodes_open_and_one_more_do_not(rt: HostRuntime) -> Result<(), Fail> {
+    let alloc = rt.alloc();
+    let base = "element a in book.xml\n  base file:///book/book.xml\n";
+    let tree = repeated(alloc, base, "  element b in book.xml\n", 999_999, "")?;
     assert!(rt;
         opens(
             alloc,
             &repeated(alloc, "<a>", "<b/>", 999_999, "</a>")?,
             0,
-            &nodes
+            &tree
         )?
     );
     assert!(rt; is_not_yet(alloc, &repeated(alloc, "<a>", "<b/>", 1_000_000, "</a>")?)?);
@@ -250,14 +263,10 @@ fn words_without_a_reading_tell_the_usage(rt: HostRuntime) -> Result<(), Fail> {
     assert!(rt; is_usage(alloc, &["a/book.xml"])?);
     assert!(rt; is_usage(alloc, &["a b.xml"])?);
     assert!(rt; is_usage(alloc, &["é.xml"])?);
-    let long = repeated(alloc, "", "x", 256, "")?;
-    match std::str::from_utf8(&long) {
-        Ok(long) => {
-            assert!(rt; is_usage(alloc, &[long])?);
-            assert!(rt; ran(alloc, None, &[], &[&long[1..]])?.status == 3);
-        }
-        Err(_) => assert!(rt; false),
-    }
+    let longest = word_of(alloc, 255)?;
+    let longer = word_of(alloc, 256)?;
+    assert!(rt; ran(alloc, None, &[], &[longest.as_str()])?.status == 3);
+    assert!(rt; is_usage(alloc, &[longer.as_str()])?);
     Ok(())
 }
 
