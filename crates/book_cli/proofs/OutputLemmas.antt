@@ -8,6 +8,7 @@ use Rattle.bk_spec.specs.Node.{Attr, Head, Nodes, no_nodes, element_node, text_n
 use Rattle.bk_spec.specs.PlainNodes.{plain_attr, plain_head, GivesAttributes, GivesHead, GivesNodes}
 use Rattle.bk_spec.specs.Print.{print_tree}
 use Rattle.xt_lex.proofs.Theorems.{tag_unique}
+use Rattle.xt_read.proofs.Theorems.{one_tree}
 use Rattle.bk_desk.specs.declared.desk_name.DeskName.{DeskName}
 use Rattle.bk_desk.specs.declared.desk_name.DeskName.TheVariants.{Book}
 use Rattle.book_cli.specs.Words.{root_of}
@@ -43,32 +44,36 @@ nodes_unique file uri (leaf reference_item text rest) a b first second = absurd 
 nodes_unique file uri (leaf comment_item text rest) a b first second = absurd first
 nodes_unique file uri (leaf pi_item text rest) a b first second = absurd first
 
+-- a document reads as one tree
+documents_unique : (bytes : List ℕ) (a b : Items) → IsPlainDocument bytes a → IsPlainDocument bytes b → a ≡ b
+documents_unique bytes a b first second = one_tree bytes a b first.reading second.reading
+
 some_same : (a b : List ℕ) (found : Option (List ℕ)) → found ≡ Some a → found ≡ Some b → a ≡ b
 some_same a b found first second = let e : ◌≡◌ {A = Option (List ℕ)} (Some a) (Some b) = sym first ∙ second in cc
 
-file_unique : ((bytes : List ℕ) (a b : Items) → IsPlainDocument bytes a → IsPlainDocument bytes b → a ≡ b) → (file : List ℕ) (found : Option (List ℕ)) (s t : ℕ) (x y : List ℕ)
+file_unique : (file : List ℕ) (found : Option (List ℕ)) (s t : ℕ) (x y : List ℕ)
     → FileOutput file found s x → FileOutput file found t y → (s ≡ t) × (x ≡ y)
-file_unique one file found s t x y (missing a b c) (missing d e f) = (b ∙ sym e, c ∙ sym f)
-file_unique one file found s t x y (missing a b c) (not_yet bytes d e f g) = let bad : ◌≡◌ {A = Option (List ℕ)} None (Some bytes) = sym a ∙ d in absurd (cc)
-file_unique one file found s t x y (missing a b c) (opened bytes items nodes d e f g h) = let bad : ◌≡◌ {A = Option (List ℕ)} None (Some bytes) = sym a ∙ d in absurd (cc)
-file_unique one file found s t x y (not_yet bytes d e f g) (missing a b c) = let bad : ◌≡◌ {A = Option (List ℕ)} None (Some bytes) = sym a ∙ d in absurd (cc)
-file_unique one file found s t x y (opened bytes items nodes d e f g h) (missing a b c) = let bad : ◌≡◌ {A = Option (List ℕ)} None (Some bytes) = sym a ∙ d in absurd (cc)
-file_unique one file found s t x y (not_yet bytes a b c d) (not_yet others e f g h) = (c ∙ sym g, d ∙ sym h)
-file_unique one file found s t x y (not_yet bytes a b c d) (opened others items nodes e f g h i) =
+file_unique file found s t x y (missing a b c) (missing d e f) = (b ∙ sym e, c ∙ sym f)
+file_unique file found s t x y (missing a b c) (not_yet bytes d e f g) = let bad : ◌≡◌ {A = Option (List ℕ)} None (Some bytes) = sym a ∙ d in absurd (cc)
+file_unique file found s t x y (missing a b c) (opened bytes items nodes d e f g h) = let bad : ◌≡◌ {A = Option (List ℕ)} None (Some bytes) = sym a ∙ d in absurd (cc)
+file_unique file found s t x y (not_yet bytes d e f g) (missing a b c) = let bad : ◌≡◌ {A = Option (List ℕ)} None (Some bytes) = sym a ∙ d in absurd (cc)
+file_unique file found s t x y (opened bytes items nodes d e f g h) (missing a b c) = let bad : ◌≡◌ {A = Option (List ℕ)} None (Some bytes) = sym a ∙ d in absurd (cc)
+file_unique file found s t x y (not_yet bytes a b c d) (not_yet others e f g h) = (c ∙ sym g, d ∙ sym h)
+file_unique file found s t x y (not_yet bytes a b c d) (opened others items nodes e f g h i) =
     absurd (b items (subst (λ (l : List ℕ). IsPlainDocument l items) (some_same others bytes found e a) f))
-file_unique one file found s t x y (opened others items nodes e f g h i) (not_yet bytes a b c d) =
+file_unique file found s t x y (opened others items nodes e f g h i) (not_yet bytes a b c d) =
     absurd (b items (subst (λ (l : List ℕ). IsPlainDocument l items) (some_same others bytes found e a) f))
-file_unique one file found s t x y (opened bytes items nodes a b c d e) (opened others items_b nodes_b f g h i j) =
-    let same : items ≡ items_b = one others items items_b (subst (λ (l : List ℕ). IsPlainDocument l items) (some_same bytes others found a f) b) g in
+file_unique file found s t x y (opened bytes items nodes a b c d e) (opened others items_b nodes_b f g h i j) =
+    let same : items ≡ items_b = documents_unique others items items_b (subst (λ (l : List ℕ). IsPlainDocument l items) (some_same bytes others found a f) b) g in
     let nodes_same : nodes ≡ nodes_b = nodes_unique file (file_uri file) items_b nodes nodes_b (subst (λ (l : Items). GivesNodes file (file_uri file) l nodes) same c) h in
     (d ∙ sym i, e ∙ ap (λ (n : Nodes). print_tree n) nodes_same ∙ sym j)
 
-root_unique : ((bytes : List ℕ) (a b : Items) → IsPlainDocument bytes a → IsPlainDocument bytes b → a ≡ b) → (root : Option (List ℕ)) (files : DeskName → Option (List ℕ)) (s t : ℕ) (x y : List ℕ)
+root_unique : (root : Option (List ℕ)) (files : DeskName → Option (List ℕ)) (s t : ℕ) (x y : List ℕ)
     → RootOutput root files s x → RootOutput root files t y → (s ≡ t) × (x ≡ y)
-root_unique one None files s t x y first second = (first.0 ∙ sym second.0, first.1 ∙ sym second.1)
-root_unique one (Some file) files s t x y first second = file_unique one file (files (Book file)) s t x y first second
+root_unique None files s t x y first second = (first.0 ∙ sym second.0, first.1 ∙ sym second.1)
+root_unique (Some file) files s t x y first second = file_unique file (files (Book file)) s t x y first second
 
 -- words and files give one status and one output
-pub output_unique : ((bytes : List ℕ) (a b : Items) → IsPlainDocument bytes a → IsPlainDocument bytes b → a ≡ b) → (words : List (List ℕ)) (files : DeskName → Option (List ℕ)) (s t : ℕ) (x y : List ℕ)
+pub output_unique : (words : List (List ℕ)) (files : DeskName → Option (List ℕ)) (s t : ℕ) (x y : List ℕ)
     → IsOutput words files s x → IsOutput words files t y → (s ≡ t) × (x ≡ y)
-output_unique one words files s t x y first second = root_unique one (root_of words) files s t x y first second
+output_unique words files s t x y first second = root_unique (root_of words) files s t x y first second

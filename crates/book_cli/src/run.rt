@@ -21,7 +21,7 @@ use xt_read::{Unread, read_document};
 use xt_tree::Src;
 
 /// The most bytes that a file may have.
-const MOST_BYTES: usize = 4_194_304;
+pub const MOST_BYTES: usize = 4_194_304;
 
 /// The status of a run that memory was wanting for.
 pub const NO_MEMORY: u8 = 7;
