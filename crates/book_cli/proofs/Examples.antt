@@ -1,0 +1,72 @@
+-- The definitions of this crate, computed on right and on wrong cases.
+use Rattle.std.proofs.Common.{◌≡◌, ◌≢◌, ℕ, List, [], ◌∷◌, ◌++◌, refl, codes, true, false, Option, Some, None, encode_utf8}
+use Rattle.std.specs.Str.{is_utf8, chars}
+use Rattle.std.proofs.Math.Utf8.{encode}
+use Rattle.bk_desk.specs.declared.desk_name.DeskName.{DeskName}
+use Rattle.bk_name.specs.FileName.{is_file_name}
+use Rattle.book_cli.specs.TextValue.{text_value, quoted_value, char_of}
+use Rattle.book_cli.specs.Words.{is_root, root_of}
+use Rattle.book_cli.specs.Output.{FileOutput, missing, IsOutput, usage_line, missing_line}
+use Rattle.book_cli.specs.Effects.{file_steps}
+
+-- line ends are as read: CR LF is one LF, a reference to a CR stays
+lines : text_value (0x61 ∷ 0xD ∷ 0xA ∷ 0xD ∷ 0x62 ∷ []) ≡ 0x61 ∷ 0xA ∷ 0xA ∷ 0x62 ∷ []
+lines = refl
+
+-- white space of an attribute value is a space, that of a text stays
+spaces : quoted_value (codes "'1\t2'") ≡ codes "1 2"
+spaces = refl
+
+tabs : text_value (codes "1\t2") ≡ codes "1\t2"
+tabs = refl
+
+-- references stand for their characters; decimal, hexadecimal, predefined
+decimal : char_of (codes "&#65;") ≡ 65
+decimal = refl
+
+hexadecimal : char_of (codes "&#x4a;") ≡ 74
+hexadecimal = refl
+
+predefined : char_of (codes "&amp;") ≡ 0x26
+predefined = refl
+
+-- no words and two words have no reading, whatever they are
+no_words : root_of [] ≡ None
+no_words = refl
+
+two_words : root_of (codes "a.xml" ∷ codes "b.xml" ∷ []) ≡ None
+two_words = refl
+
+-- an option and a path have none
+option : is_root (codes "--help") ≡ false
+option = refl
+
+path : is_root (codes "a/b.xml") ≡ false
+path = refl
+
+one_word : is_root (codes "book.xml") ≡ true
+unfolding is_file_name is_utf8 chars encode
+one_word = refl
+
+parent_folder : is_root (codes "..") ≡ false
+unfolding is_file_name is_utf8 chars encode
+parent_folder = refl
+
+control_file : is_root (codes ".burst-gate") ≡ false
+unfolding is_file_name is_utf8 chars encode
+control_file = refl
+
+-- without words the usage line, and no other
+usage : (files : DeskName → Option (List ℕ)) → IsOutput [] files 2 usage_line
+usage files = (refl, refl)
+
+no_other : (files : DeskName → Option (List ℕ)) → IsOutput [] files 3 usage_line → ⊥
+no_other files output = let bad : ◌≡◌ {A = ℕ} 3 2 = output.0 in absurd (cc)
+
+-- a file that isn't there
+absent : FileOutput (codes "a.xml") None 3 (codes "fault Missing a.xml\n")
+absent = missing refl refl refl
+
+-- a step a byte
+steps : file_steps (Some (codes "<a/>")) ≡ 4
+steps = refl

@@ -1,0 +1,7 @@
+pub mod ValueParts
+pub mod TextValue
+pub mod Words
+pub mod Output
+pub mod Printing
+pub mod Silent
+pub mod Effects
