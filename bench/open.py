@@ -109,8 +109,8 @@ class Expected:
 
     ESCAPES = str.maketrans({"\"": "\\\"", "\\": "\\\\", "\n": "\\n", "\t": "\\t", "\r": "\\r"})
 
-    def __init__(self, document, name="book.xml"):
-        self.name, self.level, self.pending = name, 0, []
+    def __init__(self, document, name="book.xml", out=None):
+        self.name, self.level, self.pending, self.out = name, 0, [], out
         self.hash, self.lines, self.elements, self.texts, self.bytes = hashlib.sha256(), 0, 0, 0, 0
         parser = xml.parsers.expat.ParserCreate("UTF-8")
         parser.ordered_attributes = True
@@ -122,6 +122,8 @@ class Expected:
     def line(self, level, words):
         line = ("  " * level + words + "\n").encode()
         self.hash.update(line)
+        if self.out:
+            self.out.write(line)
         self.lines += 1
         self.bytes += len(line)
 
@@ -273,9 +275,13 @@ def main():
     parser.add_argument("--classes", nargs="+", default=USUAL, choices=list(CLASSES))
     parser.add_argument("--repeats", type=int, default=5)
     parser.add_argument("--results", default=str(TOP / "bench/RESULTS.md"), help="the file to write; - for standard output alone")
+    parser.add_argument("--render", metavar="FILE", help="print the lines that are expected of this document, and end")
     parser.add_argument("--check", action="store_true", help="compare the outputs alone, and time nothing")
     parser.add_argument("--anyway", action="store_true", help="also on a loaded machine")
     words = parser.parse_args()
+    if words.render:
+        Expected(Path(words.render).read_bytes(), Path(words.render).name, sys.stdout.buffer)
+        return
     load = os.getloadavg()
     if load[0] > os.cpu_count() / 2 and not words.anyway and not words.check:
         sys.exit(f"bench: the machine is busy (load {load[0]:.1f} on {os.cpu_count()} processors); --anyway runs it all the same")
