@@ -208,6 +208,17 @@ fn what_is_no_plain_document_is_not_yet(rt: HostRuntime) -> Result<(), Fail> {
 }
 
 #[test]
+fn no_two_of_many_attributes_have_one_name(rt: HostRuntime) -> Result<(), Fail> {
+    let alloc = rt.alloc();
+    let many =
+        "<x a='' b='' c='' d='' e='' f='' g='' h='' i='' j='' k='' l='' m='' n='' o='' p='' q=''";
+    let document = repeated(alloc, many, " r=''", 1, "/>")?;
+    assert!(rt; ran(alloc, Some(&document), &[], &["book.xml"])?.status == 0);
+    assert!(rt; is_not_yet(alloc, &repeated(alloc, many, " b=''", 1, "/>")?)?);
+    Ok(())
+}
+
+#[test]
 fn level_128_opens_and_129_does_not(rt: HostRuntime) -> Result<(), Fail> {
     let alloc = rt.alloc();
     assert!(rt; opens(alloc, &nested(alloc, 128)?, 0, &nested_tree(alloc, 128)?)?);

@@ -9,7 +9,11 @@ ghost use Rattle.xt_read.specs.Progress.{names_at, are_apart};
 
 use crate::bytes::{bytes_at, is_same};
 use std::alloc::{AllocError, Global};
+use std::collections::BTreeSet;
 use xt_lex::{AttrSrc, Span};
+
+/// To how many attributes a tag has few.
+const FEW: usize = 16;
 
 /// Whether an attribute has this name.
 fn has_name(bytes: &[u8], name: Span, attrs: &[AttrSrc]) -> bool
@@ -30,13 +34,29 @@ fn are_few_distinct(bytes: &[u8], attrs: &[AttrSrc]) -> bool
     true
 }
 
-/// Whether no two attributes have one name.
+/// Whether no two of many attributes have one name: a set of the names is as long as the list.
+fn are_many_distinct(alloc: Global, bytes: &[u8], attrs: &[AttrSrc]) -> Result<bool, AllocError>
+    ensures { IfOk result (λ distinct. distinct ≡ are_distinct (names_at bytes.now attrs.now)) }
+{
+    let names: BTreeSet<&[u8]> = attrs
+        .iter()
+        .map(|attr| bytes_at(bytes, attr.name))
+        .collect(alloc)?;
+    Ok(names.len() == attrs.len())
+}
+
+/// Whether no two attributes have one name. A few are compared in place, which takes no memory; many are put into a
+/// set, so that the time isn't that of all pairs.
 pub(crate) fn are_distinct(
-    _alloc: Global,
+    alloc: Global,
     bytes: &[u8],
     attrs: &[AttrSrc],
 ) -> Result<bool, AllocError>
     ensures { IfOk result (λ distinct. distinct ≡ are_distinct (names_at bytes.now attrs.now)) }
 {
-    Ok(are_few_distinct(bytes, attrs))
+    if attrs.len() <= FEW {
+        Ok(are_few_distinct(bytes, attrs))
+    } else {
+        are_many_distinct(alloc, bytes, attrs)
+    }
 }
