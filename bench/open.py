@@ -220,13 +220,13 @@ def ratio(a, b):
 
 def table_of(rows):
     lines = [
-        "| Document | Size | Nodes | Program | `--noout` | `--xinclude` | CPU ratio to `--noout` | to `--xinclude` | Memory | `--noout` | Memory ratio |",
-        "|---|---|---|---|---|---|---|---|---|---|---|",
+        "| Document | Size | Nodes | Printed | Program | `--noout` | `--xinclude` | CPU ratio to `--noout` | to `--xinclude` | Memory | `--noout` | Memory ratio |",
+        "|---|---|---|---|---|---|---|---|---|---|---|---|",
     ]
     for row in rows:
         ours, noout, xinclude = row["runs"]["program"], row["runs"]["noout"], row["runs"]["xinclude"]
         lines.append(
-            f"| {row['name']} | {row['mib']} MiB | {row['nodes']:,} | {ours[0] * 1000:.1f} ms | {noout[0] * 1000:.1f} ms | {xinclude[0] * 1000:.1f} ms "
+            f"| {row['name']} | {row['mib']} MiB | {row['nodes']:,} | {row['printed'] / MIB:.1f} MiB | {ours[0] * 1000:.1f} ms | {noout[0] * 1000:.1f} ms | {xinclude[0] * 1000:.1f} ms "
             f"| {ratio(ours[0], noout[0])} | {ratio(ours[0], xinclude[0])} | {ours[1] / 1024:.1f} MiB | {noout[1] / 1024:.1f} MiB | {ratio(ours[1], noout[1])} |"
         )
     return lines
@@ -308,7 +308,7 @@ def main():
                     print(f"{name} {mib} MiB: {expected.lines:,} lines as expected", flush=True)
                     continue
                 runs = measured(commands, folder, words.repeats)
-                rows.append({"name": name, "mib": mib, "nodes": expected.elements + expected.texts, "runs": runs})
+                rows.append({"name": name, "mib": mib, "nodes": expected.elements + expected.texts, "printed": expected.bytes, "runs": runs})
                 print(f"{name} {mib} MiB: {ratio(runs['program'][0], runs['noout'][0])} of --noout's time, {ratio(runs['program'][1], runs['noout'][1])} of its memory", flush=True)
     if words.check:
         return
