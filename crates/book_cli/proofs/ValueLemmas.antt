@@ -1,5 +1,5 @@
 -- Values: what stands at the front of a text that characters and references spell, and how it prints.
-use Rattle.std.proofs.Common.{◌==◌, le_refl, min, not, Option, Some, None, length-append, ◌≡◌, ◌∙◌, ℕ, suc, ◌<◌, ◌≤◌, ◌+◌, ◌-◌, List, [], ◌∷◌, ◌++◌, map, take, drop, length, get_or, refl, sym, ap, subst, arith, true, false, Bool, codes, inl, inr, append_assoc, encode_utf8}
+use Rattle.std.proofs.Common.{◌==◌, le_refl, min, not, Option, Some, None, length-append, ◌≡◌, ◌≢◌, ◌∙◌, ℕ, zero, suc, ◌<◌, ◌≤◌, ◌+◌, ◌-◌, List, [], ◌∷◌, ◌++◌, map, take, drop, length, get_or, refl, sym, ap, subst, arith, true, false, Bool, ◌&&◌, codes, inl, inr, ◌⊎◌, append_assoc, encode_utf8}
 use Rattle.std.proofs.lemmas.Bool.{and_parts}
 use Rattle.std.proofs.lemmas.List.Sums.{position_or_len_is}
 use Rattle.std.specs.List.{position_or_len}
@@ -8,9 +8,9 @@ use Rattle.memchr.specs.Find.{is_byte, IsFirstByte}
 use Rattle.std.proofs.lemmas.Bool.Decides.{nat_tests}
 use Rattle.std.proofs.lemmas.Grind.{flat_map-append}
 use Rattle.std.proofs.lemmas.List.{append-nil, take_all}
-use Rattle.std.proofs.lemmas.List.Folds.{flat_map-map}
+use Rattle.std.proofs.lemmas.List.Folds.{flat_map-map, list_all-append}
 use Rattle.std.specs.List.{list_all, flat_map, prefix_len}
-use Rattle.xt_spec.specs.Reference.{StandsFor, is_decimal_digit, is_hexadecimal_digit}
+use Rattle.xt_spec.specs.Reference.{StandsFor, NamesChar, IsPredefined, AreDigits, is_decimal_digit, is_hexadecimal_digit}
 use Rattle.xt_spec.specs.Text.{TextPart, data_part, reference_part, parts_text}
 use Rattle.bk_spec.specs.Print.{quoted_byte}
 use Rattle.book_cli.specs.declared.value.Within.{Within}

@@ -32,8 +32,7 @@ pub(crate) fn put(out: &mut Vec<u8>, bytes: &[u8]) -> Result<(), AllocError>
 fn is_unescaped(b: u8) -> bool
     ensures value { result ≡ is_unescaped b }
 {
-    // Most letters lie above all bytes that are escaped, and need one comparison.
-    b > b'\\' || !matches!(b, b'"' | b'\\' | b'\n' | b'\t' | b'\r')
+    !matches!(b, b'"' | b'\\' | b'\n' | b'\t' | b'\r')
 }
 
 /// How many bytes at the front print as themselves.
