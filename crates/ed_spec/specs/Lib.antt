@@ -1,3 +1,7 @@
 pub mod Escape
 pub mod Paths
 pub mod TextEdit
+pub mod Place
+pub mod Book
+pub mod Edit
+pub mod Session

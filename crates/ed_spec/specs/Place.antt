@@ -1,0 +1,73 @@
+-- Places of the printed tree; of this project. A place is a list of numbers from 1: the first is that of a node among those
+-- at the top of a document, each further one that of a child of the element before.
+-- Here: no two texts stand side by side, and no reference shows more than one node, as in a plain document.
+--
+--   path_of   the path of the item that gives the node at a place, where there is one
+--   text_set  the nodes with another value in the place of the text that a place names
+use Rattle.std.specs.Prelude.{ℕ, zero, suc, ◌-◌, List, [], ◌∷◌, Bool, true, false, if◌then◌else◌, Option, None, Some}
+use Rattle.std.specs.Option.{option_map}
+use Rattle.xt_spec.specs.Tree.{LeafKind, Items, nil, element, leaf, text_item, reference_item, comment_item, pi_item, gap}
+use Rattle.bk_spec.specs.Node.{Origin, Nodes, no_nodes, element_node, text_node, comment_node, pi_node}
+
+-- whether a leaf gives a node of its own
+abbrev pub gives_node : LeafKind → Bool
+gives_node text_item = true
+gives_node comment_item = true
+gives_node pi_item = true
+gives_node reference_item = false
+gives_node gap = false
+
+-- the same path, among items behind one more
+abbrev pub behind_one : List ℕ → List ℕ
+behind_one [] = []
+behind_one (index ∷ path) = suc index ∷ path
+
+-- the path to the child of this number, from what the first child gives and what those behind it give
+abbrev pub child : ℕ → Option (List ℕ) → Option (List ℕ) → Option (List ℕ)
+child zero first others = None
+child (suc zero) first others = first
+child (suc (suc number)) first others = option_map behind_one others
+
+-- what a leaf gives: itself, and nothing in it
+abbrev pub leaf_path : List ℕ → Option (List ℕ)
+leaf_path [] = Some (0 ∷ [])
+leaf_path (number ∷ place) = None
+
+-- the path of the item that gives the node of this number, or of what a place leads to in it
+abbrev pub path_in : Items → ℕ → List ℕ → Option (List ℕ)
+path_in nil number place = None
+path_in (leaf kind text rest) number place =
+    if gives_node kind then child number (leaf_path place) (path_in rest (number - 1) place)
+    else option_map behind_one (path_in rest number place)
+path_in (element open_tag kids close rest) number [] = child number (Some (0 ∷ [])) (path_in rest (number - 1) [])
+path_in (element open_tag kids close rest) number (next ∷ place) =
+    child number (option_map (λ path. 0 ∷ path) (path_in kids next place)) (path_in rest (number - 1) (next ∷ place))
+
+abbrev pub path_of : Items → List ℕ → Option (List ℕ)
+path_of items [] = None
+path_of items (number ∷ place) = path_in items number place
+
+-- a text with this value, which goes where that is empty
+abbrev pub text_or_none : List ℕ → Origin → Nodes → Nodes
+text_or_none [] origin others = others
+text_or_none (b ∷ bytes) origin others = text_node (b ∷ bytes) origin others
+
+-- the nodes with this value in the place of the text of this number, or of the one that a place leads to in it; other nodes
+-- are as before
+abbrev pub text_set_in : Nodes → ℕ → List ℕ → List ℕ → Nodes
+text_set_in no_nodes number place value = no_nodes
+text_set_in nodes zero place value = nodes
+text_set_in (text_node old origin rest) (suc zero) [] value = text_or_none value origin rest
+text_set_in (text_node old origin rest) (suc zero) (next ∷ place) value = text_node old origin rest
+text_set_in (text_node old origin rest) (suc (suc number)) place value = text_node old origin (text_set_in rest (suc number) place value)
+text_set_in (element_node head kids rest) (suc zero) [] value = element_node head kids rest
+text_set_in (element_node head kids rest) (suc zero) (next ∷ place) value = element_node head (text_set_in kids next place value) rest
+text_set_in (element_node head kids rest) (suc (suc number)) place value = element_node head kids (text_set_in rest (suc number) place value)
+text_set_in (comment_node old origin rest) (suc zero) place value = comment_node old origin rest
+text_set_in (comment_node old origin rest) (suc (suc number)) place value = comment_node old origin (text_set_in rest (suc number) place value)
+text_set_in (pi_node target old origin rest) (suc zero) place value = pi_node target old origin rest
+text_set_in (pi_node target old origin rest) (suc (suc number)) place value = pi_node target old origin (text_set_in rest (suc number) place value)
+
+abbrev pub text_set : Nodes → List ℕ → List ℕ → Nodes
+text_set nodes [] value = nodes
+text_set nodes (number ∷ place) value = text_set_in nodes number place value
