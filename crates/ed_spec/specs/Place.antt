@@ -17,35 +17,40 @@ gives_node pi_item = true
 gives_node reference_item = false
 gives_node gap = false
 
--- the same path, among items behind one more
-abbrev pub behind_one : List ℕ → List ℕ
-behind_one [] = []
-behind_one (index ∷ path) = suc index ∷ path
+-- the index of the child of this number, from that of the next number among the items behind the first child
+abbrev pub child_index : ℕ → Option ℕ → Option ℕ
+child_index zero others = None
+child_index (suc zero) others = Some 0
+child_index (suc (suc number)) others = option_map suc others
 
--- the path to the child of this number, from what the first child gives and what those behind it give
-abbrev pub child : ℕ → Option (List ℕ) → Option (List ℕ) → Option (List ℕ)
-child zero first others = None
-child (suc zero) first others = first
-child (suc (suc number)) first others = option_map behind_one others
+-- the index of the item that gives the node of this number; items that give none are not counted
+abbrev pub index_of : Items → ℕ → Option ℕ
+index_of nil number = None
+index_of (leaf kind text rest) number = if gives_node kind then child_index number (index_of rest (number - 1)) else option_map suc (index_of rest number)
+index_of (element open_tag kids close rest) number = child_index number (index_of rest (number - 1))
 
--- what a leaf gives: itself, and nothing in it
-abbrev pub leaf_path : List ℕ → Option (List ℕ)
-leaf_path [] = Some (0 ∷ [])
-leaf_path (number ∷ place) = None
+-- what the item of this index holds
+abbrev pub content_of : Items → ℕ → Items
+content_of nil index = nil
+content_of (leaf kind text rest) zero = nil
+content_of (element open_tag kids close rest) zero = kids
+content_of (leaf kind text rest) (suc index) = content_of rest index
+content_of (element open_tag kids close rest) (suc index) = content_of rest index
 
--- the path of the item that gives the node of this number, or of what a place leads to in it
-abbrev pub path_in : Items → ℕ → List ℕ → Option (List ℕ)
-path_in nil number place = None
-path_in (leaf kind text rest) number place =
-    if gives_node kind then child number (leaf_path place) (path_in rest (number - 1) place)
-    else option_map behind_one (path_in rest number place)
-path_in (element open_tag kids close rest) number [] = child number (Some (0 ∷ [])) (path_in rest (number - 1) [])
-path_in (element open_tag kids close rest) number (next ∷ place) =
-    child number (option_map (λ path. 0 ∷ path) (path_in kids next place)) (path_in rest (number - 1) (next ∷ place))
+-- a first index, and the path that goes on from there
+abbrev pub step_along : Option ℕ → (ℕ → Option (List ℕ)) → Option (List ℕ)
+step_along None others = None
+step_along (Some index) others = option_map (λ path. index ∷ path) (others index)
 
+-- the path that a list of numbers leads along
+abbrev pub path_along : Items → List ℕ → Option (List ℕ)
+path_along items [] = Some []
+path_along items (number ∷ place) = step_along (index_of items number) (λ index. path_along (content_of items index) place)
+
+-- .. a place, which has a number at least
 abbrev pub path_of : Items → List ℕ → Option (List ℕ)
 path_of items [] = None
-path_of items (number ∷ place) = path_in items number place
+path_of items (number ∷ place) = path_along items (number ∷ place)
 
 -- a text with this value, which goes where that is empty
 abbrev pub text_or_none : List ℕ → Origin → Nodes → Nodes
