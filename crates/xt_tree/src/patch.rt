@@ -1,6 +1,7 @@
 //! Bytes in place of bytes of a file.
 
-ghost use Rattle.std.specs.Prelude.{◌≡◌, ◌≤◌, ◌++◌, length, take, drop, OnOk, OnErr};
+ghost use Rattle.std.specs.Prelude.{◌≡◌, ◌≤◌, length, OnOk, OnErr};
+ghost use Rattle.xt_tree.specs.Patches.{patched};
 
 use std::alloc::AllocError;
 
@@ -16,7 +17,7 @@ pub struct Patch {
 pub fn splice(bytes: &mut Vec<u8>, patch: &Patch) -> Result<(), AllocError>
     requires order { patch.now.from ≤ patch.now.to }
     requires within { patch.now.to ≤ length bytes.old.items }
-    ensures value { OnOk result (bytes.new.items ≡ take patch.now.from bytes.old.items ++ patch.now.new.items ++ drop patch.now.to bytes.old.items) }
+    ensures value { OnOk result (bytes.new.items ≡ patched bytes.old.items patch.now) }
     ensures same { OnErr result (bytes.new.items ≡ bytes.old.items) }
 {
     let new = Vec::from_slice(*bytes.allocator(), patch.new.as_slice())?;
