@@ -1,1 +1,5 @@
+pub mod ItemPlaces
+pub mod PatchLemmas
 pub mod PlaceLemmas
+pub mod Theorems
+pub mod Walks

@@ -1,2 +1,4 @@
 pub mod Meaning
+pub mod Patches
 pub mod Places
+pub mod Spans

@@ -1,8 +1,15 @@
-//! The lossless tree of a file, by places: where each tag and each leaf stands in the file's bytes.
-//! Spans are bytes of the file from 0, half open. What a tree means is `specs/Meaning.antt`, and where its parts have to
-//! stand `specs/Places.antt`. Whether the bytes read so is not asked here (`xt_read`). No call takes memory.
+//! The lossless tree of a file, by places: where each tag and each leaf stands in the file's bytes, the item at a path and
+//! its span, and bytes put in place of bytes. Spans are bytes of the file from 0, half open. What a tree means is
+//! `specs/Meaning.antt`, where its parts have to stand `specs/Places.antt`, and what a span is good for
+//! `specs/Spans.antt`. Whether the bytes read so is not asked here (`xt_read`). `splice` alone takes memory.
 #![tactic(auto)]
 
+mod patch;
+mod path;
 mod source;
+#[cfg(test)]
+mod tests;
 
+pub use patch::{Patch, splice};
+pub use path::{item_at, span_at};
 pub use source::{Src, Tag};

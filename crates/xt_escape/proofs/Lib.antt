@@ -1,0 +1,4 @@
+pub mod Parts
+pub mod Escaped
+pub mod Inner
+pub mod Theorems

@@ -1,0 +1,6 @@
+-- What the crates above cite.
+--
+--   text_in_place, texts_in_place  the text of an item, and of a list of items, is what stands at its place
+--   element_is, element_marks      what an element is, and the marks of its parts
+--   in_order                       marks begin before they end
+pub use Rattle.xt_tree.proofs.ItemPlaces.{text_in_place, texts_in_place, element_is, element_marks, in_order, range_from_start, range_to_end}
