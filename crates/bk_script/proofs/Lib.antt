@@ -1,0 +1,12 @@
+pub mod Fronts
+pub mod Parts
+pub mod Numbers
+pub mod Places
+pub mod Strings
+pub mod Utf8
+pub mod Words
+pub mod Commands
+pub mod Lines
+pub mod Scripts
+pub mod Unique
+pub mod Examples

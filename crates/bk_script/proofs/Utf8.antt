@@ -1,0 +1,46 @@
+-- What follows an escape in UTF-8 is UTF-8.
+use Rattle.std.proofs.Common.{◌≡◌, ℕ, ◌<◌, List, [], ◌∷◌, ◌++◌, Bool, true, ltb, ltb-true, refl, sym, ap, subst, arith, inl, inr, ◌∙◌, codes}
+use Rattle.std.proofs.lemmas.Bool.{and_parts, lt-ltb}
+use Rattle.std.proofs.lemmas.Str.{IsUtf8-drop}
+use Rattle.std.specs.List.{list_all, prefix_len}
+use Rattle.std.specs.Str.{IsUtf8}
+use Rattle.xt_spec.specs.Reference.{is_hexadecimal_digit}
+use Rattle.xt_lex.specs.Scan.{behind}
+use Rattle.xt_lex.proofs.Runs.{behind_is, boundary_at_stop, hexadecimal_ascii}
+use Rattle.xt_lex.proofs.Spelling.{list_all_weaker, list_all_joined}
+use Rattle.xt_lex.proofs.StepLemmas.{utf8_behind}
+use Rattle.bk_script.specs.Word.{is_plain, IsEscape}
+use Rattle.bk_script.specs.Reading.{IsPushed}
+use Rattle.bk_script.proofs.Fronts.{no_plain_ascii}
+use Rattle.bk_script.proofs.Strings.{escape_takes}
+
+abbrev is_ascii : ℕ → Bool
+is_ascii b = ltb b 128
+
+after_ascii : (t r : List ℕ) → list_all is_ascii t ≡ true → IsUtf8 (t ++ r) → IsUtf8 r
+after_ascii [] r all utf8 = utf8
+after_ascii (b ∷ bs) r all utf8 =
+    let both = and_parts _ _ all in
+    after_ascii bs r both.1 (utf8_behind b (bs ++ r) (ltb-true b 128 both.0) utf8)
+
+digit_ascii : (b : ℕ) → is_hexadecimal_digit b ≡ true → is_ascii b ≡ true
+digit_ascii b h = lt-ltb b 128 (hexadecimal_ascii b h)
+
+escape_ascii : (t : List ℕ) (c : ℕ) → IsEscape t c → list_all is_ascii t ≡ true
+escape_ascii t c (inl (e, f)) = rw e refl
+escape_ascii t c (inr (inl (e, f))) = rw e refl
+escape_ascii t c (inr (inr (inl (e, f)))) = rw e refl
+escape_ascii t c (inr (inr (inr (inl (e, f))))) = rw e refl
+escape_ascii t c (inr (inr (inr (inr (inl (e, f)))))) = rw e refl
+escape_ascii t c (inr (inr (inr (inr (inr is))))) =
+    rw is.whole (list_all_joined is_ascii is.digits (125 ∷ []) (list_all_weaker is_hexadecimal_digit is_ascii digit_ascii is.digits is.spelled.all) refl)
+
+pub plain_behind : (s : List ℕ) → IsUtf8 s → IsUtf8 (behind is_plain s)
+plain_behind s utf8 = subst IsUtf8 (behind_is is_plain s) (IsUtf8-drop s (prefix_len is_plain s) utf8 (boundary_at_stop is_plain s no_plain_ascii))
+
+pub pushed_utf8 : (value rest text now after_it : List ℕ) → rest ≡ 92 ∷ text → IsPushed value text now after_it → IsUtf8 rest → IsUtf8 after_it
+pushed_utf8 value rest text now after_it is p utf8 =
+    let escaped : IsUtf8 text = utf8_behind 92 text (omega arith) (subst IsUtf8 is utf8) in
+    let t = escape_takes text (p.c, p.behind_escape) p.escape in
+    let left : IsUtf8 p.behind_escape = after_ascii t.0 p.behind_escape (escape_ascii t.0 p.c t.1) (subst IsUtf8 t.2 escaped) in
+    subst IsUtf8 (sym p.rest_is) (plain_behind p.behind_escape left)

@@ -1,0 +1,20 @@
+use Rattle.std.proofs.Common.{◌≡◌}
+use Rattle.std.specs.List.{prefix_len}
+use Rattle.xt_spec.specs.Reference.{is_hexadecimal_digit}
+use Rattle.xt_lex.proofs.Runs.{boundary_behind_or_start, hexadecimal_ascii, behind_is, run_is}
+use Rattle.bk_script.proofs.front.split_hexadecimal.Goals as goal
+
+pub split_at-requires : goal.split_at-requires
+split_at-requires c =
+    let n : c.hexadecimal_len.result ≡ prefix_len is_hexadecimal_digit c.args.text.now = cc in
+    boundary_behind_or_start is_hexadecimal_digit c.args.text.now c.utf8.text hexadecimal_ascii c.hexadecimal_len.result n
+
+pub returns-clause-digits : goal.returns-clause-digits
+returns-clause-digits c =
+    let e = run_is is_hexadecimal_digit c.args.text.now in
+    cc
+
+pub returns-clause-rest : goal.returns-clause-rest
+returns-clause-rest c =
+    let e = behind_is is_hexadecimal_digit c.args.text.now in
+    cc

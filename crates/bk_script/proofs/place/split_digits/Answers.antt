@@ -1,0 +1,18 @@
+use Rattle.std.proofs.Common.{◌≡◌, arith}
+use Rattle.std.proofs.lemmas.List.Sums.{prefix_len-le-length}
+use Rattle.xt_spec.specs.Reference.{is_decimal_digit}
+use Rattle.xt_lex.proofs.Runs.{behind_is, run_is}
+use Rattle.bk_script.proofs.place.split_digits.Goals as goal
+
+pub split_at-requires : goal.split_at-requires
+split_at-requires c = omega (arith, c.decimal_len.ensures, prefix_len-le-length is_decimal_digit c.args.bytes.now)
+
+pub returns-clause-digits : goal.returns-clause-digits
+returns-clause-digits c =
+    let e = run_is is_decimal_digit c.args.bytes.now in
+    cc
+
+pub returns-clause-rest : goal.returns-clause-rest
+returns-clause-rest c =
+    let e = behind_is is_decimal_digit c.args.bytes.now in
+    cc

@@ -1,0 +1,14 @@
+use Rattle.std.proofs.Common.{arith, get_or, refl, sym, ap, ◌∙◌, ◌+◌, ◌*◌, drop}
+use Rattle.xt_spec.specs.Reference.{number_behind}
+use Rattle.bk_script.proofs.Strings.{bound_small, bound_next, digit_more}
+use Rattle.bk_script.proofs.string.hexadecimal_value.Goals as goal
+
+pub overflow_mul-n : goal.overflow_mul-n
+overflow_mul-n c =
+    let index = c.loop-digit.digit-index in
+    omega (arith, c.loop-digit.invariant.small, bound_small index (omega (arith, c.loop-digit-test.true, c.requires.few)))
+
+pub overflow_add-n : goal.overflow_add-n
+overflow_add-n c =
+    let index = c.loop-digit.digit-index in
+    omega (arith, c.loop-digit.invariant.small, bound_small index (omega (arith, c.loop-digit-test.true, c.requires.few)), c.digit_value.ensures.small)

@@ -1,0 +1,5 @@
+pub mod Word
+pub mod Command
+pub mod Script
+pub mod Reading
+pub mod View

@@ -1,0 +1,94 @@
+//! Places of the printed tree.
+
+ghost use Rattle.std.specs.Prelude.{◌≡◌, Some, option_map};
+ghost use Rattle.std.specs.Option.{option_copied};
+ghost use Rattle.xt_spec.specs.Reference.{is_decimal_digit};
+ghost use Rattle.xt_lex.specs.Scan.{run, behind, after};
+ghost use Rattle.bk_script.specs.Reading.{Gives, step_at, parts_of, place_of};
+ghost use Rattle.bk_script.specs.Word.{ArePlaceNumbers};
+
+use crate::number::{decimal_len, number_of};
+use crate::stop::Stop;
+use std::alloc::Global;
+use std::marker::Model;
+
+/// A place of the printed tree: `/2/1` is the first child of the second node at the top. Contracts see its numbers.
+#[derive(Debug, Drop)]
+pub struct Place {
+    numbers: Vec<u32>,
+}
+
+impl Model for Place {
+    ghost use Rattle.std.specs.Prelude.{List, ℕ};
+    ghost use Rattle.bk_script.specs.Word.{ArePlaceNumbers};
+
+    ghost Value = { List ℕ };
+
+    ghost view = { λ p. p.numbers.items };
+
+    ghost invariant = { λ p. ArePlaceNumbers p.numbers.items };
+}
+
+/// The digits at the front, and what follows them.
+fn split_digits(bytes: &[u8]) -> (&[u8], &[u8])
+    ensures digits { result.0.now ≡ run is_decimal_digit bytes.now }
+    ensures rest { result.1.now ≡ behind is_decimal_digit bytes.now }
+{
+    bytes.split_at(decimal_len(bytes))
+}
+
+fn after_slash(bytes: &[u8]) -> Option<&[u8]>
+    ensures value { option_copied result ≡ after 0x2F bytes.now }
+{
+    match bytes {
+        [b'/', rest @ ..] => Some(rest),
+        _ => None,
+    }
+}
+
+/// The number of the step at the front, and what follows it.
+#[tactic(auto, unfolding(crate::specs::Reading::step_at))]
+fn step(text: &[u8]) -> Option<(u32, &[u8])>
+    ensures value { option_map (λ x. (x.0, x.1.now)) result ≡ step_at text.now }
+{
+    let (digits, rest) = split_digits(after_slash(text)?);
+    let n = number_of(digits)?;
+    if n == 0 { None } else { Some((n, rest)) }
+}
+
+/// The numbers of the steps at the front, and what follows them.
+fn steps(alloc: Global, text: &[u8]) -> Result<(Vec<u32>, &[u8]), Stop>
+    ensures value { Gives (λ x. (x.0.items, x.1.now)) result (Some (parts_of step_at text.now)) }
+{
+    let mut numbers = Vec::new(alloc);
+    let mut rest = text;
+    while let Some((n, after)) = step(rest) {
+        if numbers.push(n).is_err() {
+            return Err(Stop::NoMemory);
+        }
+        rest = after;
+    }
+    Ok((numbers, rest))
+}
+
+impl Place {
+    /// The place that the word is.
+    #[tactic(auto, unfolding(crate::specs::Reading::place_of))]
+    pub(crate) fn read(alloc: Global, word: &[u8]) -> Result<Place, Stop>
+        ensures value { Gives (λ p. p) result (place_of word.now) }
+    {
+        let (numbers, rest) = steps(alloc, word)?;
+        if numbers.is_empty() || !rest.is_empty() {
+            return Err(Stop::NoReading);
+        }
+        Ok(Place { numbers })
+    }
+
+    /// The numbers, from 1: which child each step takes. There is at least one.
+    pub fn numbers(&self) -> &[u32]
+        ensures value { result.now ≡ self.now }
+        ensures keeps { ArePlaceNumbers self.now }
+    {
+        self.numbers.as_slice()
+    }
+}

@@ -1,0 +1,6 @@
+// Why nothing was read.
+#[derive(Drop)]
+pub(crate) enum Stop {
+    NoReading,
+    NoMemory,
+}
