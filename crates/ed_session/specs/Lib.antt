@@ -1,2 +1,4 @@
 pub mod Items
 pub mod Ranges
+pub mod Kept
+pub mod Start

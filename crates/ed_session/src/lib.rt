@@ -1,5 +1,13 @@
-//! A session: a book's root is opened, edited, and saved by a burst.
+//! A session over a book of one file: its root is recovered and opened, edited, and saved by a burst.
+//!
+//! What an edit does is said by `ed_spec`, how files are saved by `jr_burst`. The tree is read anew after each edit. Which
+//! line of a script asks for what is not asked here (`bk_script`), nor what is told (`book_cli`).
 #![tactic(auto)]
 
+mod kept;
+mod opening;
 mod place;
 mod range;
+
+pub use kept::Session;
+pub use opening::{StartFault, start};

@@ -1,0 +1,150 @@
+//! How a session begins: the book is recovered, its root is read, and is a plain document.
+ghost use Rattle.std.specs.Prelude.{◌≡◌, ◌≤◌, ◌+◌, ◌⊎◌, ℕ, List, Option, Some, None, length, IsTrue, IfOk, OnOk, IsErrOf};
+ghost use Rattle.xt_spec.specs.Tree.{Items as SyntaxItems};
+ghost use Rattle.xt_spec.specs.Plain.{IsPlainDocument};
+ghost use Rattle.bk_desk.specs.declared.desk_name.DeskName.TheVariants.{Book};
+ghost use Rattle.bk_desk.specs.Disk.{FitsCap, got_of};
+ghost use Rattle.bk_desk.specs.CrashPoints.{AtEachCrash};
+ghost use Rattle.bk_desk.specs.Cause.{HasCause};
+ghost use Rattle.jr_burst.specs.SavedFiles.{recovered_files};
+ghost use Rattle.jr_burst.specs.Recover.{IsRecovered, IsStartOrRecovered, IsOnlySynced};
+ghost use Rattle.ed_session.specs.Kept.{Kept};
+ghost use Rattle.ed_session.specs.Start.{IsOver, IsNoDocument, IsStarted, IsAbsent, IsNotPlain};
+
+use crate::kept::Session;
+use bk_desk::{Desk, DeskErr, DeskName, Got};
+use bk_name::Name;
+use jr_burst::{RecoverFault, recover};
+use std::alloc::{AllocError, Global};
+use std::sync::ledger::Ledger;
+use thiserror::Error;
+use xt_lex::Steps;
+use xt_read::{Unread, read_document};
+
+/// The most bytes that a file may have.
+pub(crate) const MOST_BYTES: usize = 4_194_304;
+
+/// Why a book did not open.
+#[derive(Clone, Copy, Debug, PartialEq, Eq, Drop, Error)]
+pub enum StartFault {
+    /// The disk failed: its count of faults rose in this call.
+    #[error("the disk failed")]
+    Desk,
+    /// The gate is open and the journal has no reading. Nothing was written.
+    #[error("the journal is damaged")]
+    Journal,
+    /// The root is not there.
+    #[error("the root is not there")]
+    Missing,
+    /// The root is no plain document, as `<a><!--c--></a>`.
+    #[error("the root is no plain document")]
+    NotYet,
+    /// Memory was wanting.
+    #[error("out of memory")]
+    NoMemory,
+}
+
+impl From<RecoverFault> for StartFault {
+    ghost use Rattle.ed_session.specs.Start.{start_of_recover};
+
+    ghost from_gives = { λ e fault. fault ≡ start_of_recover e };
+
+    fn from(e: RecoverFault) -> Self {
+        match e {
+            RecoverFault::Desk => StartFault::Desk,
+            RecoverFault::Journal => StartFault::Journal,
+            RecoverFault::NoMemory => StartFault::NoMemory,
+        }
+    }
+}
+
+impl From<AllocError> for StartFault {
+    ghost use Rattle.ed_session.specs.declared.opening.StartFault.TheVariants.{NoMemory};
+
+    ghost from_gives = { λ _ fault. fault ≡ NoMemory };
+
+    fn from(_e: AllocError) -> Self {
+        StartFault::NoMemory
+    }
+}
+
+impl From<DeskErr> for StartFault {
+    ghost use Rattle.ed_session.specs.Start.{start_of_desk};
+
+    ghost from_gives = { λ e fault. fault ≡ start_of_desk e };
+
+    fn from(e: DeskErr) -> Self {
+        match e {
+            DeskErr::Failed => StartFault::Desk,
+            DeskErr::NoMemory => StartFault::NoMemory,
+        }
+    }
+}
+
+/// The session over a root of these bytes.
+fn opened<L: Ledger>(
+    alloc: Global,
+    root: Name,
+    bytes: Vec<u8>,
+    steps: &mut Steps<L>,
+) -> Result<Session, StartFault>
+    requires fits { length bytes.items ≤ MOST_BYTES }
+    ensures value { IfOk result (λ s. s ≡ record { root = root; bytes = bytes.items; saved = bytes.items }) }
+    ensures plain { IfOk result (λ s. (items : SyntaxItems) × IsPlainDocument bytes.items items) }
+    ensures fault { IsErrOf result StartFault.NotYet → (items : SyntaxItems) → ¬ IsPlainDocument bytes.items items }
+    ensures only { (fault : StartFault) → IsErrOf result fault → (fault ≡ StartFault.NotYet) ⊎ (fault ≡ StartFault.NoMemory) }
+    ensures count { steps.new ≡ steps.old + length bytes.items }
+{
+    match read_document(alloc, bytes.as_slice(), steps) {
+        Ok(items) => Ok(Session {
+            root,
+            bytes,
+            items,
+            saved: None,
+        }),
+        Err(Unread::NotPlain) => Err(StartFault::NotYet),
+        Err(Unread::NoMemory) => Err(StartFault::NoMemory),
+    }
+}
+
+/// The session over what a read of the root gave.
+fn opened_by<L: Ledger>(
+    alloc: Global,
+    root: &Name,
+    got: Got,
+    steps: &mut Steps<L>,
+) -> Result<Session, StartFault>
+    requires fits { FitsCap MOST_BYTES got }
+    ensures value { IfOk result (λ s. (found : Option (List ℕ)) → got ≡ got_of found MOST_BYTES → IsOver root.now found s) }
+    ensures missing { IsErrOf result StartFault.Missing → (found : Option (List ℕ)) → got ≡ got_of found MOST_BYTES → found ≡ None }
+    ensures not_yet { IsErrOf result StartFault.NotYet → (found : Option (List ℕ)) → got ≡ got_of found MOST_BYTES → IsNoDocument found }
+    ensures only { ¬ IsErrOf result StartFault.Desk × ¬ IsErrOf result StartFault.Journal }
+    ensures count { steps.new ≤ steps.old + MOST_BYTES }
+{
+    match got {
+        Got::Absent => Err(StartFault::Missing),
+        Got::Longer => Err(StartFault::NotYet),
+        Got::Bytes(bytes) => opened(alloc, root.share()?, bytes.into_vec(), steps),
+    }
+}
+
+/// Recovers the book, and opens its root.
+pub fn start<D: Desk, L: Ledger>(
+    alloc: Global,
+    desk: &mut D,
+    root: &Name,
+    steps: &mut Steps<L>,
+) -> Result<Session, StartFault>
+    ensures value { IsTrue D.tells → IfOk result (IsStarted root.now (D.standing desk.old) (D.standing desk.new)) }
+    ensures missing { IsTrue D.tells → IsErrOf result StartFault.Missing → IsAbsent root.now (D.standing desk.old) (D.standing desk.new) }
+    ensures not_yet { IsTrue D.tells → IsErrOf result StartFault.NotYet → IsNotPlain root.now (D.standing desk.old) (D.standing desk.new) }
+    ensures fault { IsTrue D.tells → IsErrOf result StartFault.Journal → recovered_files (D.standing desk.old).files ≡ None }
+    ensures same { IsTrue D.tells → IsErrOf result StartFault.Journal → IsOnlySynced (D.standing desk.old) (D.standing desk.new) }
+    ensures crash { IsTrue D.tells → AtEachCrash D.time D.was desk.old desk.new (IsStartOrRecovered (D.standing desk.old)) }
+    ensures cause_desk { HasCause (D.faults desk.old) (D.faults desk.new) (IsErrOf result StartFault.Desk) }
+    ensures count { (steps.old ≤ steps.new) × (steps.new ≤ steps.old + MOST_BYTES) }
+{
+    recover(alloc, desk)?;
+    let got = desk.read(&DeskName::Book(root.share()?), MOST_BYTES)?;
+    opened_by(alloc, root, got, steps)
+}
