@@ -1,16 +1,15 @@
 -- What is written for a text: its parts, its bytes and its length.
-use Rattle.std.proofs.Common.{◌≡◌, ◌≢◌, ◌∙◌, ℕ, ◌+◌, ◌*◌, ◌<◌, ◌≤◌, List, [], ◌∷◌, ◌++◌, length, refl, sym, ap, subst, arith, inl, inr, true, false, Bool, not, ◌==◌, ◌&&◌, eqb, ltb, ltb-true, eqb-true, codes, encode_utf8, encode_utf8_all, append-nil, length-append}
-use Rattle.std.proofs.lemmas.Bool.{and_parts, and_from, cond_both, both_ways}
+use Rattle.std.proofs.Common.{◌≡◌, ◌≢◌, ◌∙◌, ℕ, ◌*◌, ◌≤◌, List, [], ◌∷◌, ◌++◌, length, refl, ap, arith, inl, inr, true, false, Bool, not, ◌==◌, ◌&&◌, ltb, ltb-true, eqb-true, codes, encode_utf8, encode_utf8_all, append-nil, length-append}
+use Rattle.std.proofs.lemmas.Bool.{and_parts, and_from, cond_both}
 use Rattle.std.proofs.lemmas.Bool.Decides.{nat_tests}
 use Rattle.std.proofs.lemmas.List.Folds.{list_all-append}
 use Rattle.std.proofs.lemmas.Str.{encode_ascii, encodes-append, length-encode, len_utf8_bounds}
-use Rattle.std.specs.Char.{len_utf8}
 use Rattle.std.specs.List.{list_all}
 use lib.Utf8.{scalar, scalars}
 use Rattle.xt_spec.specs.Char.{is_char}
 use Rattle.xt_spec.specs.Reference.{StandsFor}
 use Rattle.ed_spec.specs.Escape.{escape_char, escape_at, escape_from}
-use Rattle.xt_escape.proofs.Parts.{has_no_cr, IsKept, Written, nothing_written, reference_written, kept_written}
+use Rattle.xt_escape.proofs.Parts.{has_no_cr, Written, nothing_written, reference_written, kept_written}
 
 pub ascii_bytes : (cs : List ℕ) → list_all (λ c. ltb c 128) cs ≡ true → encode_utf8_all cs ≡ cs
 ascii_bytes [] small = refl

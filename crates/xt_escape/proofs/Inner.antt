@@ -1,12 +1,12 @@
 -- How a text is cut: what a run of kept bytes, a character, an LF in front and a `]` at the end are written as.
-use Rattle.std.proofs.Common.{suc, ◌≡◌, ◌≢◌, ◌∙◌, ℕ, ◌+◌, ◌<◌, ◌≤◌, List, [], ◌∷◌, ◌++◌, length, take, drop, get_or, refl, sym, ap, subst, arith, inl, inr, true, false, Bool, ◌==◌, ◌&&◌, eqb, ltb, eqb-true, codes, encode_utf8, encode_utf8_all, append_assoc, append-nil, lit<}
+use Rattle.std.proofs.Common.{suc, ◌≡◌, ◌≢◌, ◌∙◌, ℕ, ◌<◌, ◌≤◌, List, [], ◌∷◌, ◌++◌, length, take, drop, get_or, refl, sym, ap, subst, arith, inl, inr, true, false, Bool, ◌==◌, eqb-true, codes, encode_utf8, encode_utf8_all, append_assoc, append-nil, lit<}
 use Rattle.std.proofs.lemmas.Bool.{and_parts, and_from, both_ways, cases_Bool, ne_eqb}
 use Rattle.std.proofs.lemmas.Bool.Decides.{nat_tests}
 use Rattle.std.proofs.lemmas.Grind.{flat_map-append}
 use Rattle.std.proofs.lemmas.List.{take-append-drop, take-append-le, take_all, length-append}
 use Rattle.std.proofs.lemmas.List.Folds.{list_all-append}
 use Rattle.std.proofs.lemmas.List.Sums.{prefix_len_stops, prefix_len-le-length}
-use Rattle.std.proofs.lemmas.Str.{encode_ascii, encodes-append, encodes-chars, chars-append, chars-nil, chars_past_char, IsUtf8-take, IsUtf8-drop, IsCharBoundary-at_seam, IsUtf8-nil, IsUtf8-from_ascii}
+use Rattle.std.proofs.lemmas.Str.{encode_ascii, encodes-append, encodes-chars, chars-append, chars-nil, chars_past_char, IsUtf8-take, IsCharBoundary-at_seam}
 use Rattle.std.specs.List.{list_all, flat_map, prefix_len}
 use Rattle.std.specs.Str.{chars, IsUtf8, IsCharBoundary}
 use lib.Utf8.{encode}

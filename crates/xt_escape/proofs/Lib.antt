@@ -2,3 +2,4 @@ pub mod Parts
 pub mod Escaped
 pub mod Inner
 pub mod Theorems
+mod Examples

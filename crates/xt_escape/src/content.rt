@@ -27,7 +27,7 @@ fn kept_len(bytes: &[u8]) -> usize
 /// The text cut before its first byte that may not be kept.
 fn split_kept(text: &str) -> (&str, &str)
     ensures value { inner_text text.now ≡ result.0.now ++ inner_text result.1.now }
-    ensures utf8 { IsUtf8 result.1.now }
+    ensures keeps { IsUtf8 result.1.now }
     ensures fits { length result.1.now ≤ length text.now }
 {
     text.split_at(kept_len(text.as_bytes()))

@@ -1,4 +1,4 @@
-use Rattle.std.proofs.Common.{◌≡◌, ◌∙◌, sym, string_bytes}
+use Rattle.std.proofs.Common.{◌∙◌, sym, string_bytes}
 use Rattle.xt_escape.proofs.Inner.{all_put}
 use Rattle.xt_escape.proofs.content.put_inner.Goals as goal
 

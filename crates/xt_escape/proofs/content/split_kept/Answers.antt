@@ -1,4 +1,4 @@
-use Rattle.std.proofs.Common.{◌≡◌, ◌∙◌, ap}
+use Rattle.std.proofs.Common.{◌∙◌, ap}
 use Rattle.std.specs.List.{prefix_len}
 use Rattle.xt_escape.specs.Kept.{is_kept_byte}
 use Rattle.xt_escape.proofs.Inner.{kept_cut, kept_front}
