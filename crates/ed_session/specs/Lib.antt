@@ -2,3 +2,4 @@ pub mod Items
 pub mod Ranges
 pub mod Kept
 pub mod Start
+pub mod Edits

@@ -1,9 +1,9 @@
 -- How a session begins, and why it doesn't.
 --
---   IsStarted  the book was recovered, and the session is over its root
---   IsAbsent   the book was recovered, and has no root
---   IsNotPlain the book was recovered, and its root is no plain document
-use Rattle.std.specs.Prelude.{◌≡◌, ℕ, List, Option, Some, None}
+--   IsStarted   the book was recovered, and the session is over its root
+--   FailsBy     why there is no session
+--   file_steps  how many steps it takes to read a file
+use Rattle.std.specs.Prelude.{◌≡◌, ℕ, List, length, nat_le, if◌then◌else◌, Option, Some, None, Result, Ok, Err}
 use Rattle.xt_spec.specs.Tree.{Items}
 use Rattle.xt_spec.specs.Plain.{IsPlainDocument}
 use Rattle.bk_desk.specs.declared.desk_name.DeskName.TheVariants.{Book}
@@ -12,7 +12,10 @@ use Rattle.bk_desk.specs.declared.desk.DeskErr.TheVariants as desk
 use Rattle.bk_desk.specs.Disk.{DiskState}
 use Rattle.jr_burst.specs.declared.recovery.RecoverFault.{RecoverFault}
 use Rattle.jr_burst.specs.declared.recovery.RecoverFault.TheVariants as recover
-use Rattle.jr_burst.specs.Recover.{IsRecovered}
+use Rattle.bk_desk.specs.declared.desk.Got.{Got}
+use Rattle.bk_desk.specs.declared.desk.Got.TheVariants.{Absent, Bytes, Longer}
+use Rattle.jr_burst.specs.SavedFiles.{recovered_files}
+use Rattle.jr_burst.specs.Recover.{IsRecovered, IsOnlySynced}
 use Rattle.ed_session.specs.declared.opening.StartFault.{StartFault}
 use Rattle.ed_session.specs.declared.opening.StartFault.TheVariants as start
 use Rattle.ed_session.specs.Kept.{Kept}
@@ -53,3 +56,31 @@ pub record IsAbsent (root : List ℕ) (old new : DiskState) : Type 0 where
 pub record IsNotPlain (root : List ℕ) (old new : DiskState) : Type 0 where
   pub recovered : IsRecovered old new
   pub document : IsNoDocument (new.files (Book root))
+
+-- why there is no session
+abbrev pub FailsBy : List ℕ → DiskState → DiskState → StartFault → Type 0
+FailsBy root old new start.Missing = IsAbsent root old new
+FailsBy root old new start.NotYet = IsNotPlain root old new
+FailsBy root old new start.Journal = (recovered_files old.files ≡ None) × IsOnlySynced old new
+FailsBy root old new start.Desk = Unit {0}
+FailsBy root old new start.NoMemory = Unit {0}
+
+-- how many bytes a read gave
+abbrev pub size_of_got : Got → ℕ
+size_of_got Absent = 0
+size_of_got (Bytes bytes) = length bytes
+size_of_got Longer = 0
+
+-- a step a byte of a file of at most 4,194,304 bytes
+abbrev pub file_steps : Option (List ℕ) → ℕ
+file_steps None = 0
+file_steps (Some bytes) = if nat_le (length bytes) 4194304 then length bytes else 0
+
+-- the call did not end before the root was read, or was found to be none
+abbrev pub HasRead : Result Kept StartFault → Type 0
+HasRead (Ok session) = Unit {0}
+HasRead (Err start.Missing) = Unit {0}
+HasRead (Err start.NotYet) = Unit {0}
+HasRead (Err start.Desk) = ⊥
+HasRead (Err start.Journal) = ⊥
+HasRead (Err start.NoMemory) = ⊥

@@ -4,10 +4,13 @@
 //! line of a script asks for what is not asked here (`bk_script`), nor what is told (`book_cli`).
 #![tactic(auto)]
 
+mod edit;
 mod kept;
 mod opening;
 mod place;
 mod range;
+mod refusal;
 
 pub use kept::Session;
+pub use refusal::{EditFault, Refusal};
 pub use opening::{StartFault, start};

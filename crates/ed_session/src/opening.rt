@@ -1,5 +1,5 @@
 //! How a session begins: the book is recovered, its root is read, and is a plain document.
-ghost use Rattle.std.specs.Prelude.{◌≡◌, ◌≤◌, ◌+◌, ◌⊎◌, ℕ, List, Option, Some, None, length, IsTrue, IfOk, OnOk, IsErrOf};
+ghost use Rattle.std.specs.Prelude.{◌≡◌, ◌≤◌, ◌+◌, ◌⊎◌, ℕ, List, Option, Some, None, length, IsTrue, IfOk, IfErr, IsErrOf};
 ghost use Rattle.xt_spec.specs.Tree.{Items as SyntaxItems};
 ghost use Rattle.xt_spec.specs.Plain.{IsPlainDocument};
 ghost use Rattle.bk_desk.specs.declared.desk_name.DeskName.TheVariants.{Book};
@@ -9,7 +9,7 @@ ghost use Rattle.bk_desk.specs.Cause.{HasCause};
 ghost use Rattle.jr_burst.specs.SavedFiles.{recovered_files};
 ghost use Rattle.jr_burst.specs.Recover.{IsRecovered, IsStartOrRecovered, IsOnlySynced};
 ghost use Rattle.ed_session.specs.Kept.{Kept};
-ghost use Rattle.ed_session.specs.Start.{IsOver, IsNoDocument, IsStarted, IsAbsent, IsNotPlain};
+ghost use Rattle.ed_session.specs.Start.{IsOver, IsNoDocument, IsStarted, FailsBy, size_of_got, file_steps, HasRead};
 
 use crate::kept::Session;
 use bk_desk::{Desk, DeskErr, DeskName, Got};
@@ -116,10 +116,11 @@ fn opened_by<L: Ledger>(
 ) -> Result<Session, StartFault>
     requires fits { FitsCap MOST_BYTES got }
     ensures value { IfOk result (λ s. (found : Option (List ℕ)) → got ≡ got_of found MOST_BYTES → IsOver root.now found s) }
-    ensures missing { IsErrOf result StartFault.Missing → (found : Option (List ℕ)) → got ≡ got_of found MOST_BYTES → found ≡ None }
-    ensures not_yet { IsErrOf result StartFault.NotYet → (found : Option (List ℕ)) → got ≡ got_of found MOST_BYTES → IsNoDocument found }
+    ensures fault { IsErrOf result StartFault.Missing → (found : Option (List ℕ)) → got ≡ got_of found MOST_BYTES → found ≡ None }
+    ensures none { IsErrOf result StartFault.NotYet → (found : Option (List ℕ)) → got ≡ got_of found MOST_BYTES → IsNoDocument found }
     ensures only { ¬ IsErrOf result StartFault.Desk × ¬ IsErrOf result StartFault.Journal }
     ensures count { steps.new ≤ steps.old + MOST_BYTES }
+    ensures exact { steps.old ≤ steps.new × (¬ IsErrOf result StartFault.NoMemory → steps.new ≡ steps.old + size_of_got got) }
 {
     match got {
         Got::Absent => Err(StartFault::Missing),
@@ -136,13 +137,11 @@ pub fn start<D: Desk, L: Ledger>(
     steps: &mut Steps<L>,
 ) -> Result<Session, StartFault>
     ensures value { IsTrue D.tells → IfOk result (IsStarted root.now (D.standing desk.old) (D.standing desk.new)) }
-    ensures missing { IsTrue D.tells → IsErrOf result StartFault.Missing → IsAbsent root.now (D.standing desk.old) (D.standing desk.new) }
-    ensures not_yet { IsTrue D.tells → IsErrOf result StartFault.NotYet → IsNotPlain root.now (D.standing desk.old) (D.standing desk.new) }
-    ensures fault { IsTrue D.tells → IsErrOf result StartFault.Journal → recovered_files (D.standing desk.old).files ≡ None }
-    ensures same { IsTrue D.tells → IsErrOf result StartFault.Journal → IsOnlySynced (D.standing desk.old) (D.standing desk.new) }
+    ensures fault { IsTrue D.tells → IfErr result (FailsBy root.now (D.standing desk.old) (D.standing desk.new)) }
     ensures crash { IsTrue D.tells → AtEachCrash D.time D.was desk.old desk.new (IsStartOrRecovered (D.standing desk.old)) }
     ensures cause_desk { HasCause (D.faults desk.old) (D.faults desk.new) (IsErrOf result StartFault.Desk) }
     ensures count { (steps.old ≤ steps.new) × (steps.new ≤ steps.old + MOST_BYTES) }
+    ensures exact { IsTrue D.tells → HasRead result → steps.new ≡ steps.old + file_steps ((D.standing desk.new).files (Book root.now)) }
 {
     recover(alloc, desk)?;
     let got = desk.read(&DeskName::Book(root.share()?), MOST_BYTES)?;

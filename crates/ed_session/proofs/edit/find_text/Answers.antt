@@ -1,0 +1,22 @@
+use Rattle.std.proofs.Common.{◌≡◌, ◌∙◌, sym, ap, subst, List, ℕ, Option, Some, None}
+use Rattle.xt_spec.specs.Tree.{leaf_item, text_item}
+use Rattle.ed_spec.specs.Place.{path_of}
+use Rattle.ed_spec.specs.Paths.{item_at}
+use Rattle.xt_tree.specs.Meaning.{at_span, items_in}
+use Rattle.ed_session.specs.Edits.{IsNoTextAt}
+use Rattle.ed_session.proofs.LeadLemmas.{no_text_of}
+use Rattle.ed_session.proofs.edit.find_text.Goals as goal
+
+pub returns-in-Ok-clause-value : goal.returns-in-Ok-clause-value
+returns-in-Ok-clause-value c bytes = record {
+  leads = rw c.in-Some.is at (c.in_ok-path.ensures.value bytes);
+  there = rw (← c.as_slice.ensures.value) (c.in-Ok.ensures.value bytes);
+}
+
+pub returns-in-Err-clause-fault : goal.returns-in-Err-clause-fault
+returns-in-Err-clause-fault c bytes =
+    no_text_of (items_in bytes c.args.items.now) c.args.place.now c.in-Some.path.items c.in-Err.refusal (rw c.in-Some.is at (c.in_ok-path.ensures.value bytes))
+    (subst (λ (l : List ℕ). IsNoTextAt (items_in bytes c.args.items.now) l c.in-Err.refusal) c.as_slice.ensures.value (c.in-Err.ensures.fault bytes))
+
+pub returns-in-None-clause-fault : goal.returns-in-None-clause-fault
+returns-in-None-clause-fault c bytes = rw c.in-None.is at (c.in_ok-path.ensures.value bytes)

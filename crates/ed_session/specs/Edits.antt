@@ -1,0 +1,91 @@
+-- What an edit of a session makes, and why it is refused.
+--
+--   edit_of      the edit that an operation of a script asks for
+--   refusal_of   the refusal that a variant of the code is
+--   IsNoText     why a place has no text to edit
+--   IsNoValue    why a range of a text does not give way to another text
+--   IsRefusal    why an edit is refused
+--   IsEdited     the session afterwards
+use Rattle.std.specs.Prelude.{◌≡◌, ◌⊎◌, ◌<◌, ◌≤◌, ℕ, List, length, true, false, Some, None}
+use Rattle.std.specs.List.{list_all}
+use Rattle.std.specs.Str.{chars}
+use Rattle.xt_spec.specs.Char.{is_char}
+use Rattle.xt_spec.specs.Tree.{Items, Item, source_text}
+use Rattle.xt_spec.specs.Plain.{IsPlainDocument}
+use Rattle.ed_spec.specs.Paths.{item_at}
+use Rattle.ed_spec.specs.Place.{path_of}
+use Rattle.ed_spec.specs.Edit as spec
+use Rattle.ed_spec.specs.Edit.{Edit, text_edit, is_text, IsAt, Refuses, Accepts}
+use Rattle.bk_script.specs.declared.op.Op.{Op}
+use Rattle.bk_script.specs.declared.op.Op.TheVariants as op
+use Rattle.ed_session.specs.declared.refusal.Refusal.{Refusal}
+use Rattle.ed_session.specs.declared.refusal.Refusal.TheVariants.{NoSuchPlace, WrongKind, BadRange, BadText, TooLarge}
+use Rattle.ed_session.specs.declared.refusal.EditFault.{EditFault}
+use Rattle.ed_session.specs.declared.refusal.EditFault.TheVariants.{Refused, NoMemory}
+use Rattle.ed_session.specs.Kept.{Kept}
+
+abbrev pub edit_of : Op → Edit
+edit_of (op.Text place from to value) = text_edit place from to (chars value)
+
+abbrev pub refusal_of : Refusal → spec.Refusal
+refusal_of NoSuchPlace = spec.no_such_place
+refusal_of WrongKind = spec.wrong_kind
+refusal_of BadRange = spec.bad_range
+refusal_of BadText = spec.bad_text
+refusal_of TooLarge = spec.too_large
+
+-- .. an item at a path
+abbrev pub IsNoTextAt : Items → List ℕ → Refusal → Type 0
+IsNoTextAt items path NoSuchPlace = item_at items path ≡ None
+IsNoTextAt items path WrongKind = (item : Item) × (item_at items path ≡ Some item) × (is_text item ≡ false)
+IsNoTextAt items path BadRange = ⊥
+IsNoTextAt items path BadText = ⊥
+IsNoTextAt items path TooLarge = ⊥
+
+abbrev pub IsNoText : Items → List ℕ → EditFault → Type 0
+IsNoText items place (Refused NoSuchPlace) = path_of items place ≡ None
+IsNoText items place (Refused WrongKind) = (path : List ℕ) × (item : Item) × IsAt items place path item × (is_text item ≡ false)
+IsNoText items place (Refused BadRange) = ⊥
+IsNoText items place (Refused BadText) = ⊥
+IsNoText items place (Refused TooLarge) = ⊥
+IsNoText items place NoMemory = Unit {0}
+
+abbrev pub IsNoValue : List ℕ → ℕ → ℕ → List ℕ → EditFault → Type 0
+IsNoValue old from to new (Refused BadRange) = (to < from) ⊎ (length old < to)
+IsNoValue old from to new (Refused BadText) = (from ≤ to) × (to ≤ length old) × (list_all is_char new ≡ false)
+IsNoValue old from to new (Refused NoSuchPlace) = ⊥
+IsNoValue old from to new (Refused WrongKind) = ⊥
+IsNoValue old from to new (Refused TooLarge) = ⊥
+IsNoValue old from to new NoMemory = Unit {0}
+
+abbrev pub IsTooLarge : List ℕ → EditFault → Type 0
+IsTooLarge bytes (Refused TooLarge) = 4194304 < length bytes
+IsTooLarge bytes (Refused NoSuchPlace) = ⊥
+IsTooLarge bytes (Refused WrongKind) = ⊥
+IsTooLarge bytes (Refused BadRange) = ⊥
+IsTooLarge bytes (Refused BadText) = ⊥
+IsTooLarge bytes NoMemory = Unit {0}
+
+-- the edit of these items is refused so
+abbrev pub IsRefusal : Items → Edit → EditFault → Type 0
+IsRefusal items edit (Refused refusal) = Refuses items edit (refusal_of refusal)
+IsRefusal items edit NoMemory = Unit {0}
+
+-- the bytes of the root with the edit, where the items are its tree
+pub record IsEditOf (items : Items) (edit : Edit) (bytes : List ℕ) : Type 0 where
+  pub others : Items
+  pub accepts : Accepts items edit others
+  pub bytes_are : bytes ≡ source_text others
+  pub plain : IsPlainDocument bytes others
+
+-- the root was refused so, or memory was wanting
+abbrev pub IsRefusedIn : List ℕ → Edit → EditFault → Type 0
+IsRefusedIn bytes edit fault = (items : Items) × IsPlainDocument bytes items × IsRefusal items edit fault
+
+-- the root has the bytes of the edit; what is saved stays
+pub record IsEdited (edit : Edit) (old new : Kept) : Type 0 where
+  pub root : new.root ≡ old.root
+  pub saved : new.saved ≡ old.saved
+  pub items : Items
+  pub plain : IsPlainDocument old.bytes items
+  pub edited : IsEditOf items edit new.bytes
