@@ -1,0 +1,33 @@
+-- Edits of a small tree and their outcomes.
+use Rattle.std.proofs.Common.{ℕ, List, [], ◌∷◌, refl, arith, inr, codes, Some, encode_utf8_all}
+use Rattle.xt_spec.specs.Tree.{Items, nil, element, leaf, text_item, leaf_item, element_item}
+use Rattle.xt_spec.specs.Text.{HasTextValue}
+use Rattle.ed_spec.specs.Edit.{text_edit, no_such_place, wrong_kind, bad_range, no_node, no_text, no_range, accepted}
+use Rattle.ed_laws.specs.Outcome.{refused, gives, HasOutcome}
+use Rattle.xt_escape.proofs.Theorems.{escape_has_value}
+use Rattle.ed_laws.proofs.Outcomes.{one_outcome}
+
+-- <a>x</a>
+abbrev holds : List ℕ → Items
+holds text = element (codes "<a>") (leaf text_item text nil) (Some (codes "</a>")) nil
+
+letter : HasTextValue (codes "x") (encode_utf8_all (codes "x"))
+unfolding lib.Utf8.encode
+letter = escape_has_value (codes "x") refl
+
+changes_a_letter : HasOutcome (holds (codes "x")) (text_edit (1 ∷ 1 ∷ []) 0 1 (codes "<y")) (gives (holds (codes "&lt;y")))
+unfolding lib.Utf8.encode
+changes_a_letter = accepted (1 ∷ 1 ∷ []) 0 1 (codes "<y") (0 ∷ 0 ∷ []) (codes "x") (record { item = leaf_item text_item (codes "x"); at = record { leads = refl; there = refl }; value = letter; ascends = omega arith; within = omega arith }) refl (omega arith)
+
+refuses_an_element : HasOutcome (holds (codes "x")) (text_edit (1 ∷ []) 0 0 []) (refused wrong_kind)
+refuses_an_element = no_text (1 ∷ []) 0 0 [] (0 ∷ []) (element_item (codes "<a>") (leaf text_item (codes "x") nil) (Some (codes "</a>"))) (record { leads = refl; there = refl }) refl
+
+finds_no_second_text : HasOutcome (holds (codes "x")) (text_edit (1 ∷ 2 ∷ []) 0 0 []) (refused no_such_place)
+finds_no_second_text = no_node (1 ∷ 2 ∷ []) 0 0 [] refl
+
+-- .. and so no other reason is told
+tells_one_reason : HasOutcome (holds (codes "x")) (text_edit (1 ∷ 2 ∷ []) 0 0 []) (refused wrong_kind) → ⊥
+tells_one_reason has = let same = one_outcome (holds (codes "x")) (text_edit (1 ∷ 2 ∷ []) 0 0 []) (refused no_such_place) (refused wrong_kind) finds_no_second_text has in absurd (cc)
+
+takes_two_of_one : HasOutcome (holds (codes "x")) (text_edit (1 ∷ 1 ∷ []) 0 2 []) (refused bad_range)
+takes_two_of_one = no_range (1 ∷ 1 ∷ []) 0 2 [] (0 ∷ 0 ∷ []) (leaf_item text_item (codes "x")) (codes "x") (record { leads = refl; there = refl }) letter (inr (omega arith))

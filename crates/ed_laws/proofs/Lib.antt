@@ -1,0 +1,6 @@
+pub mod Values
+pub mod Places
+pub mod Nodes
+pub mod Outcomes
+pub mod Theorems
+mod Examples

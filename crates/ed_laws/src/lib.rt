@@ -1,0 +1,8 @@
+//! Laws of edits, over the definitions of `ed_spec` alone: what an accepted edit of a text makes of the nodes that a file
+//! gives, that an edit has one outcome, and that other files stay. Each is the clause of a function that does nothing.
+//! No edit is made here.
+#![tactic(auto)]
+
+mod laws;
+
+pub use laws::{an_edit_has_an_outcome, edit_changes_the_node, one_outcome, other_files_stay};
