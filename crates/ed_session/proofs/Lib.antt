@@ -1,3 +1,5 @@
 pub mod PathLemmas
 pub mod RangeLemmas
 pub mod LeadLemmas
+pub mod EditLemmas
+pub mod BurstLemmas

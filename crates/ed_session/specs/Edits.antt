@@ -15,7 +15,7 @@ use Rattle.xt_spec.specs.Plain.{IsPlainDocument}
 use Rattle.ed_spec.specs.Paths.{item_at}
 use Rattle.ed_spec.specs.Place.{path_of}
 use Rattle.ed_spec.specs.Edit as spec
-use Rattle.ed_spec.specs.Edit.{Edit, text_edit, is_text, IsAt, Refuses, Accepts}
+use Rattle.ed_spec.specs.Edit.{Edit, text_edit, is_text, IsAt, IsInText, range_replaced, Refuses, Accepts}
 use Rattle.bk_script.specs.declared.op.Op.{Op}
 use Rattle.bk_script.specs.declared.op.Op.TheVariants as op
 use Rattle.ed_session.specs.declared.refusal.Refusal.{Refusal}
@@ -65,6 +65,13 @@ IsTooLarge bytes (Refused WrongKind) = ⊥
 IsTooLarge bytes (Refused BadRange) = ⊥
 IsTooLarge bytes (Refused BadText) = ⊥
 IsTooLarge bytes NoMemory = Unit {0}
+
+-- the text at the path, with these characters as its new value
+pub record IsNewText (items : Items) (place : List ℕ) (from to : ℕ) (new path value : List ℕ) : Type 0 where
+  pub characters : List ℕ
+  pub inside : IsInText items place from to path characters
+  pub new_are : list_all is_char new ≡ true
+  pub value_is : value ≡ range_replaced characters from to new
 
 -- the edit of these items is refused so
 abbrev pub IsRefusal : Items → Edit → EditFault → Type 0

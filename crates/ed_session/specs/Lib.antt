@@ -3,3 +3,4 @@ pub mod Ranges
 pub mod Kept
 pub mod Start
 pub mod Edits
+pub mod Burst

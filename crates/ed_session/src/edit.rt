@@ -12,7 +12,7 @@ ghost use Rattle.xt_tree.specs.Meaning.{at_span, item_of, items_in};
 ghost use Rattle.xt_tree.specs.Places.{marks_of, AreInPlace};
 ghost use Rattle.xt_tree.specs.Patches.{patched};
 ghost use Rattle.ed_session.specs.Items.{IsNarrow};
-ghost use Rattle.ed_session.specs.Edits.{edit_of, IsNoTextAt, IsNoText, IsNoValue, IsTooLarge, IsRefusal, IsEditOf, IsRefusedIn, IsEdited};
+ghost use Rattle.ed_session.specs.Edits.{edit_of, IsNoTextAt, IsNoText, IsNoValue, IsTooLarge, IsNewText, IsRefusal, IsEditOf, IsRefusedIn, IsEdited};
 
 use crate::kept::Session;
 use crate::opening::MOST_BYTES;
@@ -128,8 +128,7 @@ fn new_value(
 fn with_patch(alloc: Global, bytes: &[u8], patch: &Patch) -> Result<Vec<u8>, EditFault>
     requires order { patch.now.from ≤ patch.now.to }
     requires within { patch.now.to ≤ length bytes.now }
-    ensures value { IfOk result (λ out. out.items ≡ patched bytes.now patch.now) }
-    ensures fits { IfOk result (λ out. length out.items ≤ MOST_BYTES) }
+    ensures value { IfOk result (λ out. (out.items ≡ patched bytes.now patch.now) × (length out.items ≤ MOST_BYTES)) }
     ensures fault { IfErr result (IsTooLarge (patched bytes.now patch.now)) }
 {
     let left = bytes.len() - (patch.to - patch.from) as usize;
@@ -158,7 +157,42 @@ fn read_again<L: Ledger>(
     }
 }
 
-/// The bytes of a plain document with the characters of a text from one place to another giving way to others.
+/// A text with a new value: its path, and the value.
+#[derive(Drop)]
+struct NewText {
+    path: Vec<u32>,
+    value: String,
+}
+
+/// The text at a place, with the characters from one place to another giving way to others.
+fn new_text(
+    alloc: Global,
+    bytes: &[u8],
+    items: &[Src],
+    at: &[u32],
+    from: u32,
+    to: u32,
+    new: &str,
+) -> Result<NewText, EditFault>
+    requires current { IsPlainDocument bytes.now (items_in bytes.now items.now) }
+    ensures value { IfOk result (λ t. IsNewText (items_in bytes.now items.now) at.now from to (chars new.now) t.path.items (chars (string_bytes t.value))) }
+    ensures fault { IfErr result (IsRefusal (items_in bytes.now items.now) (text_edit at.now from to (chars new.now))) }
+{
+    let found = match find_text(alloc, items, at) {
+        Ok(found) => found,
+        Err(e) => return Err(e),
+    };
+    let old = value_of(alloc, bytes_at(bytes, found.span))?;
+    match new_value(alloc, old.as_str(), from, to, new) {
+        Ok(value) => Ok(NewText {
+            path: found.path,
+            value,
+        }),
+        Err(e) => Err(e),
+    }
+}
+
+/// The bytes of a plain document with the text at a place edited.
 fn edited(
     alloc: Global,
     bytes: &[u8],
@@ -173,11 +207,49 @@ fn edited(
     ensures value { IfOk result (λ out. IsEditOf (items_in bytes.now items.now) (text_edit at.now from to (chars new.now)) out.items) }
     ensures fault { IfErr result (IsRefusal (items_in bytes.now items.now) (text_edit at.now from to (chars new.now))) }
 {
-    let found = find_text(alloc, items, at)?;
-    let old = value_of(alloc, bytes_at(bytes, found.span))?;
-    let value = new_value(alloc, old.as_str(), from, to, new)?;
-    let patch = text_patch(alloc, bytes, items, found.path.as_slice(), value.as_str(), false)?;
+    let text = match new_text(alloc, bytes, items, at, from, to, new) {
+        Ok(text) => text,
+        Err(e) => return Err(e),
+    };
+    let patch = text_patch(
+        alloc,
+        bytes,
+        items,
+        text.path.as_slice(),
+        text.value.as_str(),
+        false,
+    )?;
     with_patch(alloc, bytes, &patch)
+}
+
+/// The bytes of a plain document with an operation of a script done.
+fn edited_by(
+    alloc: Global,
+    bytes: &[u8],
+    items: &[Src],
+    op: &Op,
+) -> Result<Vec<u8>, EditFault>
+    requires current { IsPlainDocument bytes.now (items_in bytes.now items.now) }
+    requires place { AreInPlace bytes.now 0 (marks_of items.now) (length bytes.now) }
+    ensures value { IfOk result (λ out. IsEditOf (items_in bytes.now items.now) (edit_of op.now) out.items) }
+    ensures fault { IfErr result (IsRefusal (items_in bytes.now items.now) (edit_of op.now)) }
+{
+    match op {
+        Op::Text {
+            place,
+            from,
+            to,
+            value,
+        } => edited(
+            alloc,
+            bytes,
+            items,
+            place.numbers(),
+            *from,
+            *to,
+            value.as_str(),
+        ),
+    }
 }
 
 impl Session {
@@ -205,21 +277,7 @@ impl Session {
         ensures exact { OnOk result (steps.new ≡ steps.old + length self.new.bytes) }
     {
         let alloc = *self.bytes.allocator();
-        let Op::Text {
-            place,
-            from,
-            to,
-            value,
-        } = op;
-        let bytes = edited(
-            alloc,
-            self.bytes.as_slice(),
-            self.items.as_slice(),
-            place.numbers(),
-            *from,
-            *to,
-            value.as_str(),
-        )?;
+        let bytes = edited_by(alloc, self.bytes.as_slice(), self.items.as_slice(), op)?;
         let items = read_again(alloc, bytes.as_slice(), steps)?;
         self.replace(bytes, items);
         Ok(())

@@ -4,6 +4,7 @@
 //! line of a script asks for what is not asked here (`bk_script`), nor what is told (`book_cli`).
 #![tactic(auto)]
 
+mod burst;
 mod edit;
 mod kept;
 mod opening;

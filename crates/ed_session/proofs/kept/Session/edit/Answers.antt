@@ -1,0 +1,12 @@
+use Rattle.std.proofs.Common.{◌≡◌, ◌∙◌, ap, sym}
+use Rattle.xt_tree.specs.Meaning.{items_in}
+use Rattle.ed_session.specs.Kept.{Kept}
+use Rattle.ed_session.specs.Edits.{edit_of}
+use Rattle.ed_session.proofs.EditLemmas.{is_edited}
+use Rattle.ed_session.proofs.kept.Session.edit.Goals as goal
+
+pub returns-clause-value : goal.returns-clause-value
+returns-clause-value g c =
+    is_edited (edit_of c.args.op.now) c.args.self.now c.replace.new.self c.as_slice.result.now c.in_ok-bytes.bytes.items (items_in c.as_slice.result.now c.as_slice-2.result.now)
+    (ap (λ (k : Kept). k.bytes) (sym c.self.view_is) ∙ sym c.as_slice.ensures.value)
+    (rw c.as_slice.ensures.value (rw c.as_slice-2.ensures c.self.invariant.plain)) c.in_ok-bytes.ensures.value c.replace.ensures.value
