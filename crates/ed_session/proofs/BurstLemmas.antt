@@ -1,5 +1,5 @@
 -- The session after a save.
-use Rattle.std.proofs.Common.{◌≡◌, ◌≢◌, ◌∙◌, ℕ, List, sym, ap, refl, inl, inr, ◌⊎◌, Option, Some, None, Vec, Global}
+use Rattle.std.proofs.Common.{◌≡◌, ◌≢◌, ◌∙◌, ℕ, List, sym, ap, refl, inl, inr, Option, Some, None, Vec, Global}
 use Rattle.ed_session.specs.Kept.{Kept, kept, saved_of}
 use Rattle.ed_session.specs.Burst.{IsSaved}
 

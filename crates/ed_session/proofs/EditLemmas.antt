@@ -1,8 +1,6 @@
 -- From the parts of an edit to its outcome.
-use Rattle.std.proofs.Common.{◌≡◌, ◌∙◌, ℕ, suc, ◌<◌, ◌≤◌, ◌+◌, ◌*◌, List, [], ◌∷◌, take, drop, ◌++◌, length, refl, sym, ap, subst, arith, true, false, Bool, ◌&&◌, Option, Some, None, encode_utf8_all, inl, inr}
-use Rattle.std.proofs.lemmas.Bool.{and_parts}
+use Rattle.std.proofs.Common.{◌≡◌, ◌∙◌, ℕ, suc, ◌<◌, ◌≤◌, ◌+◌, ◌*◌, List, take, drop, ◌++◌, length, sym, ap, subst, arith, true, false, Bool, Some, encode_utf8_all}
 use Rattle.std.specs.List.{list_all}
-use Rattle.std.specs.Str.{chars, IsUtf8}
 use Rattle.xt_spec.specs.Char.{is_char}
 use Rattle.xt_spec.specs.Tree.{Item, element_item, leaf_item, text_item, reference_item, comment_item, pi_item, gap, Items, nil, element, leaf, begins_with, source_text}
 use Rattle.xt_spec.specs.Text.{IsTextItem, HasTextValue}
@@ -15,7 +13,6 @@ use Rattle.ed_spec.specs.Edit.{Edit, text_edit, IsAt, IsInText, range_replaced, 
 use Rattle.ed_laws.proofs.Places.{text_at}
 use Rattle.ed_laws.proofs.Theorems.{value_chars}
 use Rattle.ed_laws.proofs.Values.{all_joined, all_cut}
-use Rattle.ed_session.specs.declared.refusal.Refusal.{Refusal}
 use Rattle.ed_session.specs.declared.refusal.Refusal.TheVariants.{NoSuchPlace, WrongKind, BadRange, BadText, TooLarge}
 use Rattle.ed_session.specs.declared.refusal.EditFault.{EditFault}
 use Rattle.ed_session.specs.declared.refusal.EditFault.TheVariants.{Refused, NoMemory}
@@ -101,7 +98,7 @@ pub no_value_refused : (items : Items) (place new path text characters : List �
     → IsNoValue characters from to new e → IsRefusal items (text_edit place from to new) e
 no_value_refused items place new path text characters from to (Refused BadRange) at has none = no_range place from to new path (leaf_item text_item text) characters at has none
 no_value_refused items place new path text characters from to (Refused BadText) at has (ascends, within, bad) =
-    no_char place from to new path characters (record { item = leaf_item text_item text; at = at; value = has; ascends = ascends; within = within; }) bad
+    no_char place from to new path characters (record { item = leaf_item text_item text; at = at; value = has; ascends = ascends; within = within }) bad
 no_value_refused items place new path text characters from to (Refused NoSuchPlace) at has none = absurd none
 no_value_refused items place new path text characters from to (Refused WrongKind) at has none = absurd none
 no_value_refused items place new path text characters from to (Refused TooLarge) at has none = absurd none
@@ -111,7 +108,7 @@ pub new_text_is : (items : Items) (place new path text characters value : List �
     → (from ≤ to) × (to ≤ length characters) × (list_all is_char new ≡ true) × (value ≡ range_replaced characters from to new) → IsNewText items place from to new path value
 new_text_is items place new path text characters value from to at has (ascends, within, are, is) = record {
   characters = characters;
-  inside = record { item = leaf_item text_item text; at = at; value = has; ascends = ascends; within = within; };
+  inside = record { item = leaf_item text_item text; at = at; value = has; ascends = ascends; within = within };
   new_are = are;
   value_is = is;
 }

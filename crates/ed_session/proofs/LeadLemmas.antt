@@ -1,6 +1,6 @@
 -- A place that leads along a path leads to an item.
-use Rattle.std.proofs.Common.{◌≡◌, ◌∙◌, ℕ, zero, suc, ◌-◌, List, [], ◌∷◌, refl, sym, ap, subst, Bool, true, false, Option, Some, None, option_map, if◌then◌else◌}
-use Rattle.xt_spec.specs.Tree.{Item, element_item, leaf_item, LeafKind, Items, nil, element, leaf}
+use Rattle.std.proofs.Common.{◌≡◌, ◌∙◌, ℕ, zero, suc, ◌-◌, List, [], ◌∷◌, refl, sym, subst, Bool, true, false, Option, Some, None, option_map, if◌then◌else◌}
+use Rattle.xt_spec.specs.Tree.{Item, element_item, leaf_item, Items, nil, element, leaf}
 use Rattle.ed_spec.specs.Paths.{item_in, item_at}
 use Rattle.ed_spec.specs.Place.{gives_node, child_index, index_of, content_of, step_along, path_along, path_of}
 use Rattle.ed_session.specs.declared.refusal.Refusal.{Refusal}
@@ -87,7 +87,7 @@ leads_there items (number ∷ place) path is = along_there items number place pa
 -- a path that leads to no text is that of a place without one
 pub no_text_of : (items : Items) (place path : List ℕ) (refusal : Refusal) → path_of items place ≡ Some path → IsNoTextAt items path refusal → IsNoText items place (Refused refusal)
 no_text_of items place path NoSuchPlace leads none = let (item, there) = leads_there items place path leads in let bad = sym none ∙ there in absurd (cc)
-no_text_of items place path WrongKind leads (item, there, other) = (path, item, record { leads = leads; there = there; }, other)
+no_text_of items place path WrongKind leads (item, there, other) = (path, item, record { leads = leads; there = there }, other)
 no_text_of items place path BadRange leads none = none
 no_text_of items place path BadText leads none = none
 no_text_of items place path TooLarge leads none = none

@@ -1,5 +1,5 @@
 -- Places and paths, item by item.
-use Rattle.std.proofs.Common.{◌≡◌, ◌∙◌, ℕ, zero, suc, ◌<◌, ◌≤◌, ◌+◌, ◌-◌, ◌++◌, List, append_assoc, [], ◌∷◌, map, drop, length, get_or, refl, sym, ap, subst, arith, Bool, true, false, Option, Some, None, option_map, if◌then◌else◌, drop-cons, ◌==◌}
+use Rattle.std.proofs.Common.{◌≡◌, ◌∙◌, ℕ, zero, suc, ◌<◌, ◌≤◌, ◌+◌, ◌-◌, ◌++◌, List, append_assoc, [], ◌∷◌, drop, length, get_or, refl, sym, ap, subst, arith, true, false, Option, Some, None, option_map, if◌then◌else◌, drop-cons, ◌==◌}
 use Rattle.std.proofs.lemmas.List.{append-nil, drop_all}
 use Rattle.std.proofs.lemmas.Bool.Decides.{nat_tests}
 use Rattle.xt_spec.specs.Tree.{Item, element_item, leaf_item, Items, nil, element, leaf, before}

@@ -1,5 +1,5 @@
 -- A text cut behind so many characters.
-use Rattle.std.proofs.Common.{◌≡◌, ◌∙◌, ℕ, zero, suc, ◌<◌, ◌≤◌, ◌+◌, ◌-◌, length-append, List, [], ◌∷◌, ◌++◌, take, drop, length, get_or, refl, sym, ap, subst, arith, true, ◌&&◌, encode_utf8, encode_utf8_all, append_assoc, drop-cons, take-suc, take_at}
+use Rattle.std.proofs.Common.{◌≡◌, ◌∙◌, ℕ, zero, suc, ◌<◌, ◌≤◌, ◌+◌, ◌-◌, length-append, List, [], ◌∷◌, ◌++◌, take, drop, length, get_or, refl, sym, ap, arith, true, ◌&&◌, encode_utf8, append_assoc, drop-cons, take-suc, take_at}
 use Rattle.std.proofs.lemmas.Bool.{and_parts}
 use lib.Utf8.{scalar, scalars}
 use Rattle.std.proofs.lemmas.List.{append-nil}
@@ -21,7 +21,7 @@ first_char text rest c (cs, (all, spell)) is =
 -- before the first character
 pub cut_nothing : (text : List ℕ) → IsUtf8 text → IsCut text 0 text
 unfolding chars
-cut_nothing text is = record { front = []; cut = refl; utf8 = IsUtf8-nil; rest_utf8 = is; within = omega arith; taken = refl; left = refl; }
+cut_nothing text is = record { front = []; cut = refl; utf8 = IsUtf8-nil; rest_utf8 = is; within = omega arith; taken = refl; left = refl }
 
 -- behind one more
 pub cut_next : (text rest more : List ℕ) (count c : ℕ) → IsCut text count rest → chars rest ≡ c ∷ chars more → rest ≡ encode_utf8 c ++ more → IsUtf8 (encode_utf8 c) → IsUtf8 more → IsCut text (count + 1) more
@@ -40,7 +40,7 @@ cut_next text rest more count c cut first begins is_char is_more =
       rest_utf8 = is_more;
       within = omega arith;
       taken = chars-append cut.front (encode_utf8 c) cut.utf8 ∙ ap (λ (l : List ℕ). l ++ chars (encode_utf8 c)) cut.taken ∙ ap (λ (l : List ℕ). take count (chars text) ++ l) one_char
-        ∙ (let more_taken : take (suc count) (chars text) ≡ take count (chars text) ++ c ∷ [] = take-suc (chars text) count 0 inside ∙ ap (λ (n : ℕ). take count (chars text) ++ n ∷ []) same.0 in rw (← next) (sym more_taken));
+          ∙ (let more_taken : take (suc count) (chars text) ≡ take count (chars text) ++ c ∷ [] = take-suc (chars text) count 0 inside ∙ ap (λ (n : ℕ). take count (chars text) ++ n ∷ []) same.0 in rw (← next) (sym more_taken));
       left = rw (← next) (sym same.1);
     }
   where
@@ -80,8 +80,10 @@ pub range_is : (text front rest end new out : List ℕ) (from to : ℕ) → from
     → (from ≤ to) × (to ≤ length (chars text)) × (chars out ≡ range_replaced (chars text) from to (chars new))
 range_is text front rest end new out from to ascends cut last is_new front_is out_is =
     let front_same : front ≡ cut.front = front_is ∙ rw (cut_place text rest from cut) (ap (λ (l : List ℕ). take (length cut.front) l) cut.cut ∙ take_at cut.front rest (length cut.front) refl) in
-    let joined : out ≡ cut.front ++ (new ++ end) = out_is ∙ append_assoc front new end ∙ ap (λ (l : List ℕ). l ++ (new ++ end)) front_same in
-    (ascends, last.within,
-     ap chars joined ∙ chars-append cut.front (new ++ end) cut.utf8 ∙ ap (λ (l : List ℕ). chars cut.front ++ l) (chars-append new end is_new)
-     ∙ ap (λ (l : List ℕ). l ++ (chars new ++ chars end)) cut.taken ∙ ap (λ (l : List ℕ). take from (chars text) ++ (chars new ++ l)) last.left
-     ∙ sym (append_assoc (take from (chars text)) (chars new) (drop to (chars text))))
+    let joined : out ≡ cut.front ++ (new ++ end) = out_is ∙ append_assoc front new end ∙ ap (λ (l : List ℕ). l ++ (new ++ end)) front_same in (
+      ascends,
+      last.within,
+      ap chars joined ∙ chars-append cut.front (new ++ end) cut.utf8 ∙ ap (λ (l : List ℕ). chars cut.front ++ l) (chars-append new end is_new)
+          ∙ ap (λ (l : List ℕ). l ++ (chars new ++ chars end)) cut.taken ∙ ap (λ (l : List ℕ). take from (chars text) ++ (chars new ++ l)) last.left
+          ∙ sym (append_assoc (take from (chars text)) (chars new) (drop to (chars text))),
+    )

@@ -102,13 +102,7 @@ fn are_chars(text: &str) -> bool
 }
 
 /// The value of a text with others in the place of a range of its characters.
-fn new_value(
-    alloc: Global,
-    old: &str,
-    from: u32,
-    to: u32,
-    new: &str,
-) -> Result<String, EditFault>
+fn new_value(alloc: Global, old: &str, from: u32, to: u32, new: &str) -> Result<String, EditFault>
     ensures value { IfOk result (λ out. (from ≤ to) × (to ≤ length (chars old.now)) × (list_all spec.is_char (chars new.now) ≡ true) × (chars (string_bytes out) ≡ range_replaced (chars old.now) from to (chars new.now))) }
     ensures fault { IfErr result (IsNoValue (chars old.now) from to (chars new.now)) }
 {
@@ -223,12 +217,7 @@ fn edited(
 }
 
 /// The bytes of a plain document with an operation of a script done.
-fn edited_by(
-    alloc: Global,
-    bytes: &[u8],
-    items: &[Src],
-    op: &Op,
-) -> Result<Vec<u8>, EditFault>
+fn edited_by(alloc: Global, bytes: &[u8], items: &[Src], op: &Op) -> Result<Vec<u8>, EditFault>
     requires current { IsPlainDocument bytes.now (items_in bytes.now items.now) }
     requires place { AreInPlace bytes.now 0 (marks_of items.now) (length bytes.now) }
     ensures value { IfOk result (λ out. IsEditOf (items_in bytes.now items.now) (edit_of op.now) out.items) }

@@ -13,5 +13,5 @@ mod range;
 mod refusal;
 
 pub use kept::Session;
-pub use refusal::{EditFault, Refusal};
 pub use opening::{StartFault, start};
+pub use refusal::{EditFault, Refusal};

@@ -48,7 +48,11 @@ fn content(item: &Src) -> &[Src]
 }
 
 /// The path of the item that gives the node at a place, where there is one.
-pub(crate) fn path_of(alloc: Global, items: &[Src], place: &[u32]) -> Result<Option<Vec<u32>>, AllocError>
+pub(crate) fn path_of(
+    alloc: Global,
+    items: &[Src],
+    place: &[u32],
+) -> Result<Option<Vec<u32>>, AllocError>
     requires few { (bytes : List ℕ) × IsNarrow MOST_SIBLINGS (items_in bytes items.now) }
     ensures value { IfOk result (λ found. (bytes : List ℕ) → MatchOption found (spec.path_of (items_in bytes items.now) place.now ≡ None) (λ path. spec.path_of (items_in bytes items.now) place.now ≡ Some path.items)) }
 {

@@ -4,12 +4,10 @@ use Rattle.std.specs.List.{list_all}
 use Rattle.std.specs.Str.{chars}
 use Rattle.xt_spec.specs.Char.{is_char}
 use Rattle.xt_spec.specs.Plain.{IsPlainDocument}
-use Rattle.xt_spec.specs.Tree.{leaf_item, text_item, source_text}
-use Rattle.ed_spec.specs.Paths.{item_at}
+use Rattle.xt_spec.specs.Tree.{source_text}
 use Rattle.ed_spec.specs.TextEdit.{text_edited}
 use Rattle.xt_tree.specs.Meaning.{items_in}
 use Rattle.xt_tree.specs.Patches.{patched}
-use Rattle.ed_session.specs.Edits.{IsNewText}
 use Rattle.ed_session.proofs.EditLemmas.{new_text_there, new_text_chars, edit_of_new, too_large_refused}
 use Rattle.ed_session.proofs.edit.edited.Goals as goal
 
@@ -31,7 +29,7 @@ returns-clause-value c =
     IfOk-weaker c.with_patch.result _ _
     (λ out is.
     let bytes_are : out.items ≡ source_text (text_edited false items path value) =
-      is.0 ∙ c.in_ok-patch.ensures.value ∙ ap (λ (l : List ℕ). source_text (text_edited false items l (chars c.as_str.result.now))) c.as_slice.ensures.value ∙ ap (λ (l : List ℕ). source_text (text_edited false items path l)) text_is in
+    is.0 ∙ c.in_ok-patch.ensures.value ∙ ap (λ (l : List ℕ). source_text (text_edited false items l (chars c.as_str.result.now))) c.as_slice.ensures.value ∙ ap (λ (l : List ℕ). source_text (text_edited false items path l)) text_is in
     let size : length (patched bytes c.in_ok-patch.patch) ≤ 4194304 = subst (λ (l : List ℕ). length l ≤ 4194304) is.0 is.1 in
     let plain = c.in_ok-patch.ensures.keeps refl (subst (λ (l : List ℕ). list_all is_char l ≡ true) (sym text_is) are) c.requires.current size in
     edit_of_new items c.args.at.now (chars c.args.new.now) path value out.items c.args.from c.args.to new bytes_are is.1
@@ -48,7 +46,7 @@ returns-clause-fault c =
     let value = chars (string_bytes c.in-Ok.text.value) in
     let text_is : chars c.as_str.result.now ≡ value = ap chars c.as_str.ensures.value in
     let bytes_are : patched bytes c.in_ok-patch.patch ≡ source_text (text_edited false items path value) =
-      c.in_ok-patch.ensures.value ∙ ap (λ (l : List ℕ). source_text (text_edited false items l (chars c.as_str.result.now))) c.as_slice.ensures.value ∙ ap (λ (l : List ℕ). source_text (text_edited false items path l)) text_is in
+    c.in_ok-patch.ensures.value ∙ ap (λ (l : List ℕ). source_text (text_edited false items l (chars c.as_str.result.now))) c.as_slice.ensures.value ∙ ap (λ (l : List ℕ). source_text (text_edited false items path l)) text_is in
     IfErr-weaker c.with_patch.result _ _
     (λ e large. too_large_refused items c.args.at.now (chars c.args.new.now) path value (patched bytes c.in_ok-patch.patch) c.args.from c.args.to e c.in-Ok.ensures.value bytes_are large)
     c.with_patch.ensures.fault

@@ -1,8 +1,5 @@
-use Rattle.std.proofs.Common.{◌≡◌, ◌∙◌, sym, ap, subst, List, ℕ, Option, Some, None}
-use Rattle.xt_spec.specs.Tree.{leaf_item, text_item}
-use Rattle.ed_spec.specs.Place.{path_of}
-use Rattle.ed_spec.specs.Paths.{item_at}
-use Rattle.xt_tree.specs.Meaning.{at_span, items_in}
+use Rattle.std.proofs.Common.{subst, List, ℕ}
+use Rattle.xt_tree.specs.Meaning.{items_in}
 use Rattle.ed_session.specs.Edits.{IsNoTextAt}
 use Rattle.ed_session.proofs.LeadLemmas.{no_text_of}
 use Rattle.ed_session.proofs.edit.find_text.Goals as goal

@@ -1,4 +1,4 @@
-use Rattle.std.proofs.Common.{◌≡◌, ◌∙◌, sym, ap, Some}
+use Rattle.std.proofs.Common.{◌∙◌, sym, ap, Some}
 use Rattle.xt_spec.specs.Tree.{Item}
 use Rattle.xt_tree.specs.Meaning.{item_of}
 use Rattle.ed_session.proofs.edit.text_span_at.Goals as goal

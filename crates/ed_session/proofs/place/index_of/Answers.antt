@@ -1,4 +1,4 @@
-use Rattle.std.proofs.Common.{◌≡◌, ◌∙◌, sym, arith}
+use Rattle.std.proofs.Common.{◌∙◌, sym, arith}
 use Rattle.ed_session.proofs.PathLemmas.{found_at_end, found_here, found_never, passed_over, counted_one}
 use Rattle.ed_session.proofs.place.index_of.Goals.{then-gives_node+else-left-le1, else-gives_node}
 use Rattle.ed_session.proofs.place.index_of.Goals as goal
@@ -17,8 +17,8 @@ pub loop-index-preserved : goal.loop-index-preserved
 loop-index-preserved c bytes =
     c.loop-index.invariant bytes
     ∙ elim c.if-gives_node.branch [
-      then-gives_node+else-left-le1 w ↦ rw w.left-is (counted_one bytes c.args.items.now c.loop-index.index c.loop-index.left c.index-items-index.result _ (omega arith) c.index-items-index.is (sym (c.gives_node.ensures.value bytes) ∙ w.if-gives_node.true) (omega arith))
-    | else-gives_node w ↦ rw w.left-is (passed_over bytes c.args.items.now c.loop-index.index c.loop-index.left c.index-items-index.result _ (omega arith) c.index-items-index.is (sym (c.gives_node.ensures.value bytes) ∙ w.if-gives_node.false))
+      | then-gives_node+else-left-le1 w ↦ rw w.left-is (counted_one bytes c.args.items.now c.loop-index.index c.loop-index.left c.index-items-index.result _ (omega arith) c.index-items-index.is (sym (c.gives_node.ensures.value bytes) ∙ w.if-gives_node.true) (omega arith))
+      | else-gives_node w ↦ rw w.left-is (passed_over bytes c.args.items.now c.loop-index.index c.loop-index.left c.index-items-index.result _ (omega arith) c.index-items-index.is (sym (c.gives_node.ensures.value bytes) ∙ w.if-gives_node.false))
     ]
 
 pub returns-clause-value : goal.returns-clause-value

@@ -1,4 +1,4 @@
-use Rattle.std.proofs.Common.{◌≡◌, ◌≤◌, ◌∙◌, sym, refl, ap, arith, length, subst}
+use Rattle.std.proofs.Common.{◌≤◌, ◌∙◌, sym, refl, arith, length}
 use Rattle.ed_session.proofs.PathLemmas.{goes_along, goes_nowhere, item_count-items, narrow_next, place_is, path_whole}
 use Rattle.ed_session.proofs.place.path_of.Goals as goal
 
@@ -17,20 +17,20 @@ offset_bounds-level-index c =
 pub returns-in-None : goal.returns-in-None
 returns-in-None c = record {
   value = λ bytes. place_is _ c.args.place.now (sym c.is_empty.ensures ∙ c.if-is_empty.false) ∙ c.loop-number.invariant.along bytes
-    ∙ goes_nowhere bytes c.loop-number.level.now c.args.place.now c.loop-number.path.items c.loop-number.number-index _ (omega arith) refl (c.index_of.ensures.value bytes ∙ c.in-None.is);
+      ∙ goes_nowhere bytes c.loop-number.level.now c.args.place.now c.loop-number.path.items c.loop-number.number-index _ (omega arith) refl (c.index_of.ensures.value bytes ∙ c.in-None.is);
 }
 
 pub loop-number-preserved : goal.loop-number-preserved
 loop-number-preserved c = record {
   along = λ bytes. c.loop-number.invariant.along bytes
-    ∙ rw c.in_ok-push-in-Some.ensures.items
-    (goes_along bytes c.loop-number.level.now c.content-level.result.now c.args.place.now c.loop-number.path.items c.loop-number.number-index _ c.in-Some.index c.index-level-index.result _ (omega arith) refl c.in-Some.ensures.fits
-    (c.index_of.ensures.value bytes ∙ c.in-Some.is) c.index-level-index.is (c.content-level.ensures.value bytes));
+      ∙ rw c.in_ok-push-in-Some.ensures.items
+      (goes_along bytes c.loop-number.level.now c.content-level.result.now c.args.place.now c.loop-number.path.items c.loop-number.number-index _ c.in-Some.index c.index-level-index.result _ (omega arith) refl c.in-Some.ensures.fits
+      (c.index_of.ensures.value bytes ∙ c.in-Some.is) c.index-level-index.is (c.content-level.ensures.value bytes));
   few = (c.loop-number.invariant.few.0, narrow_next 2000001 c.loop-number.invariant.few.0 c.loop-number.level.now c.content-level.result.now c.in-Some.index c.index-level-index.result _ c.loop-number.invariant.few.1 c.in-Some.ensures.fits c.index-level-index.is (c.content-level.ensures.value c.loop-number.invariant.few.0));
 }
 
 pub returns : goal.returns
 returns c = record {
   value = λ bytes. place_is _ c.args.place.now (sym c.is_empty.ensures ∙ c.if-is_empty.false) ∙ c.loop-number.invariant.along bytes
-    ∙ path_whole _ c.args.place.now c.loop-number.path.items c.loop-number.number-index (omega arith);
+      ∙ path_whole _ c.args.place.now c.loop-number.path.items c.loop-number.number-index (omega arith);
 }

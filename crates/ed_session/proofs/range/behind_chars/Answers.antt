@@ -1,6 +1,6 @@
-use Rattle.std.proofs.Common.{◌≡◌, ◌≤◌, ℕ, arith, subst}
+use Rattle.std.proofs.Common.{◌≡◌, ℕ, arith, subst}
 use Rattle.ed_session.specs.Ranges.{IsCut}
-use Rattle.ed_session.proofs.RangeLemmas.{cut_nothing, cut_next, cut_ends}
+use Rattle.ed_session.proofs.RangeLemmas.{cut_nothing, cut_next}
 use Rattle.ed_session.proofs.range.behind_chars.Goals as goal
 
 pub loop-passed-init : goal.loop-passed-init

@@ -1,4 +1,4 @@
-use Rattle.std.proofs.Common.{◌≡◌, ◌∙◌, ap, sym}
+use Rattle.std.proofs.Common.{◌∙◌, ap, sym}
 use Rattle.xt_tree.specs.Meaning.{items_in}
 use Rattle.ed_session.specs.Kept.{Kept}
 use Rattle.ed_session.specs.Edits.{edit_of}

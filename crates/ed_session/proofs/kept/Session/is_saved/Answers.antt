@@ -1,4 +1,4 @@
-use Rattle.std.proofs.Common.{◌≡◌, ◌∙◌, sym}
+use Rattle.std.proofs.Common.{◌∙◌, sym}
 use Rattle.ed_session.proofs.BurstLemmas.{saved_is}
 use Rattle.ed_session.proofs.kept.Session.is_saved.Goals as goal
 
