@@ -3,4 +3,5 @@ pub mod Places
 pub mod Nodes
 pub mod Outcomes
 pub mod Theorems
+pub mod Replies
 mod Examples

@@ -18,7 +18,7 @@ use Rattle.ed_laws.proofs.Values.{has_chars, same_chars}
 
 -- ---- what a place leads to is one
 
-some_same : {A : Type 0} (found : Option A) (x y : A) → found ≡ Some x → found ≡ Some y → x ≡ y
+pub some_same : {A : Type 0} (found : Option A) (x y : A) → found ≡ Some x → found ≡ Some y → x ≡ y
 some_same found x y p q = cc
 
 paths_same : (items : Items) (place p q : List ℕ) (i j : Item) → IsAt items place p i → IsAt items place q j → p ≡ q

@@ -10,6 +10,7 @@ ghost use Rattle.bk_spec.specs.PlainNodes.{GivesNodes};
 ghost use Rattle.ed_spec.specs.Place.{text_set};
 ghost use Rattle.ed_spec.specs.Book.{Book};
 ghost use Rattle.ed_spec.specs.Edit.{Edit, text_edit, IsInText, range_replaced, edited, Accepts, AcceptsIn};
+ghost use Rattle.ed_spec.specs.Session.{Session, Command, Reply, Step, Does, DoesAll};
 ghost use Rattle.ed_laws.specs.Outcome.{Outcome, HasOutcome};
 
 /// An edit of a text gives the text at the place its new value, and the other nodes stay; a text whose new value is empty
@@ -37,4 +38,11 @@ pub fn an_edit_has_an_outcome()
 /// An accepted edit changes no file but the root.
 pub fn other_files_stay()
     ensures law { (root name : List ℕ) (book next : Book) (edit : Edit) → AcceptsIn root book edit next → name ≢ root → next name ≡ book name }
+{}
+
+/// In a session a command has one reply at most, and leaves one session; so do commands in a row.
+pub fn one_reply()
+    ensures law { (root : List ℕ) (s t u : Session) (command : Command) (r q : Reply) → Does root s command r t → Does root s command q u → (r ≡ q) × (t ≡ u) }
+    ensures value { (root : List ℕ) (s t u : Session) (commands : List Command) (xs ys : List Step)
+        → DoesAll root s commands xs t → DoesAll root s commands ys u → (xs ≡ ys) × (t ≡ u) }
 {}
