@@ -1,3 +1,4 @@
+mod Examples
 pub mod ItemPlaces
 pub mod PatchLemmas
 pub mod PlaceLemmas
