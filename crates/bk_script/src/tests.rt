@@ -10,12 +10,14 @@ fn written(alloc: Global, commands: &[Command]) -> Result<String, Fail> {
     for command in commands {
         match command {
             Command::Burst => out.push_str("burst;")?,
-            Command::Edit(Op::Text {
-                place,
-                from,
-                to,
-                value,
-            }) => {
+            Command::Edit(
+                Op::Text {
+                    place,
+                    from,
+                    to,
+                    value,
+                },
+            ) => {
                 for number in place.numbers() {
                     out.push_str(format!(in alloc; "/{number}")?.as_str())?;
                 }
@@ -49,7 +51,11 @@ fn scripts_ask_for_these_commands(rt: HostRuntime) -> Result<(), Fail> {
         ("text /1 0 0 \"\\u{00000a}\"", "/1 0 0 \n;"),
     ] {
         let commands = read_script(alloc, script.as_bytes())?;
-        assert_eq!(rt; written(alloc, &commands)?.as_str(), expected, "at {script}");
+        assert_eq!(rt;
+            written(alloc, &commands)?.as_str(),
+            expected,
+            "at {script}"
+        );
     }
     Ok(())
 }
