@@ -53,7 +53,7 @@ from_takes n (b ∷ bs) m le e = from_by n b bs m (λ k. from_takes k bs m) (num
 from_again : (n : ℕ) (ds : List ℕ) → list_all is_decimal_digit ds ≡ true → number_behind 10 n ds ≤ top → number_from n ds ≡ Some (number_behind 10 n ds)
 from_again n [] all small = refl
 from_again n (b ∷ bs) all small =
-    let both = and_parts _ _ all in
+    let both = and_parts (is_decimal_digit b) (list_all is_decimal_digit bs) all in
     let grows = number_grows 10 (n * 10 + digit_value b) bs (omega arith) in
     rw (with_again n b both.0 (omega arith)) (from_again (n * 10 + digit_value b) bs both.1 small)
 
