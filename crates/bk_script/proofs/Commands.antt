@@ -1,12 +1,12 @@
 -- Command lines: what is read is one, and of those that are built what is one is read.
-use Rattle.std.proofs.Common.{◌≡◌, ℕ, zero, suc, ◌+◌, ◌<◌, ◌≤◌, Bool, true, false, ◌&&◌, eqb, not, List, [], ◌∷◌, ◌++◌, length, Option, Some, None, refl, sym, ap, subst, ◌∙◌, arith, inl, inr, append_assoc, eqb-true, codes, bytes_eq}
-use Rattle.std.proofs.lemmas.Bool.{cases_Bool, and_parts, and_from}
+use Rattle.std.proofs.Common.{◌≡◌, ℕ, true, ◌&&◌, List, [], ◌∷◌, ◌++◌, Some, refl, sym, ap, subst, ◌∙◌, inl, inr, eqb-true, codes, bytes_eq}
+use Rattle.std.proofs.lemmas.Bool.{and_parts}
 use Rattle.std.specs.List.{list_all}
 use Rattle.std.specs.Cmp.Lexicographic.{bytes_decides}
-use Rattle.xt_lex.specs.Scan.{◌>>=◌, run, behind}
+use Rattle.xt_lex.specs.Scan.{run}
 use Rattle.xt_lex.proofs.StepLemmas.{bind_some}
 use Rattle.bk_script.specs.Word.{is_blank, IsBlank, IsNumber, Place, IsPlace, IsString, MayFollow, Word, letters, number, place, string, AreWords}
-use Rattle.bk_script.specs.Command.{Command, edit_text, burst, words_of, IsCommandLine, is_built}
+use Rattle.bk_script.specs.Command.{Command, edit_text, burst, IsCommandLine, is_built}
 use Rattle.bk_script.specs.Reading.{word_at, place_of, number_of, last_string_at, text_at, command_at}
 use Rattle.bk_script.specs.View.{place_from}
 use Rattle.bk_script.proofs.Numbers.{number_takes, number_again}
@@ -46,9 +46,9 @@ text_takes text c e =
       value = v.0;
       command = cc;
       words =
-        front_word text (place (place_from p.0)) (number n.0 ∷ number m.0 ∷ string v.0 ∷ []) (place_takes one.0 p.0 p.1).0
-        (front_word one.1 (number n.0) (number m.0 ∷ string v.0 ∷ []) (number_takes two.0 n.0 n.1)
-        (front_word two.1 (number m.0) (string v.0 ∷ []) (number_takes three.0 m.0 m.1) (last_string_takes three.1 v.0 v.1)));
+          front_word text (place (place_from p.0)) (number n.0 ∷ number m.0 ∷ string v.0 ∷ []) (place_takes one.0 p.0 p.1).0
+          (front_word one.1 (number n.0) (number m.0 ∷ string v.0 ∷ []) (number_takes two.0 n.0 n.1)
+          (front_word two.1 (number m.0) (string v.0 ∷ []) (number_takes three.0 m.0 m.1) (last_string_takes three.1 v.0 v.1)));
     }
 
 text_again : (text : List ℕ) (p : Place) (n m : ℕ) (v : List ℕ) → p.carets ≡ 0 → AreWords text (place p ∷ number n ∷ number m ∷ string v ∷ []) → text_at text ≡ Some (edit_text p n m v)

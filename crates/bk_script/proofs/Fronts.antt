@@ -1,9 +1,9 @@
 -- The longest front whose bytes pass a test, and what follows it.
-use Rattle.std.proofs.Common.{◌≡◌, ℕ, ◌+◌, ◌-◌, ◌<◌, ◌≤◌, List, [], ◌∷◌, ◌++◌, length, take, drop, get_or, Bool, true, false, eqb, not, refl, ap, sym, ◌∙◌, arith, inl, inr, Option, Some, None, eqb-true, append-nil}
+use Rattle.std.proofs.Common.{◌≡◌, ℕ, ◌<◌, List, [], ◌∷◌, ◌++◌, Bool, true, false, refl, ap, ◌∙◌, arith, inl, inr, eqb-true, append-nil}
 use Rattle.std.proofs.lemmas.Bool.{cases_Bool, not-false}
 use Rattle.std.proofs.lemmas.Bool.Decides.{nat_tests}
 use Rattle.std.specs.List.{list_all}
-use Rattle.xt_lex.specs.Scan.{run, behind, after}
+use Rattle.xt_lex.specs.Scan.{run, behind}
 use Rattle.xt_lex.proofs.StepLemmas.{run_append, behind_append}
 use Rattle.bk_script.specs.Word.{is_blank, is_plain}
 use Rattle.bk_script.specs.Reading.{is_no_blank}

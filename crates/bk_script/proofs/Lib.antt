@@ -9,4 +9,5 @@ pub mod Commands
 pub mod Lines
 pub mod Scripts
 pub mod Unique
+pub mod Plain
 pub mod Examples

@@ -1,18 +1,17 @@
 -- Lines: what one counts, and how bytes are cut into lines.
-use Rattle.std.proofs.Common.{◌≡◌, ℕ, zero, suc, ◌+◌, ◌-◌, ◌<◌, ◌≤◌, Bool, true, false, ◌&&◌, eqb, not, cond, List, [], ◌∷◌, ◌++◌, length, take, drop, get_or, Option, Some, None, refl, sym, ap, subst, ◌∙◌, arith, inl, inr, ◌⊎◌, append_assoc, append-nil, eqb-true, codes, le_refl}
+use Rattle.std.proofs.Common.{◌≡◌, ℕ, suc, ◌+◌, ◌-◌, ◌≤◌, Bool, true, false, eqb, List, [], ◌∷◌, ◌++◌, length, take, drop, get_or, Option, Some, None, refl, sym, ap, subst, ◌∙◌, arith, inl, inr, ◌⊎◌, append_assoc, append-nil, eqb-true, codes, le_refl}
 use Rattle.std.proofs.lemmas.Bool.{cases_Bool, and_parts, and_from, both_ways, not-false}
-use Rattle.std.proofs.lemmas.Bool.Decides.{nat_tests}
 use Rattle.std.proofs.lemmas.List.{length-append, length-drop, take_at, take_all, drop_all, drop_more}
 use Rattle.std.proofs.lemmas.Str.{IsUtf8-from_is_utf8, is_utf8-from_IsUtf8}
 use Rattle.std.specs.List.{list_all}
 use Rattle.std.specs.Str.{IsUtf8, is_utf8}
 use Rattle.memchr.specs.Find.{IsFirstByte, is_byte}
-use Rattle.xt_lex.specs.Scan.{◌>>=◌, run, behind, after}
+use Rattle.xt_lex.specs.Scan.{run, behind, after}
 use Rattle.xt_lex.proofs.Runs.{byte_len, run_is, behind_is}
 use Rattle.xt_lex.proofs.Spelling.{list_all_joined}
 use Rattle.xt_lex.proofs.StepLemmas.{bind_some, run_split, run_passes, after_takes}
-use Rattle.bk_script.specs.Word.{is_blank, IsBlank, Word, letters, AreWords, AreSpelled}
-use Rattle.bk_script.specs.Command.{Command, edit_text, put, attr, drop_attr, insert, insert_at, delete, move, extract, inline, undo, redo, burst, tree, owner, words_of, IsCommandLine, is_built}
+use Rattle.bk_script.specs.Word.{is_blank, IsBlank, Word, letters, AreWords}
+use Rattle.bk_script.specs.Command.{Command, edit_text, put, attr, drop_attr, insert, insert_at, delete, move, extract, inline, undo, redo, burst, tree, owner, words_of, IsCommandLine}
 use Rattle.bk_script.specs.Script.{is_no_lf, ends_in_cr, IsEndedLine, IsSplit, IsComment, IsLine}
 use Rattle.bk_script.specs.Reading.{is_passed_over, option_some, command_at, line_of, without_cr, ended_line_at, parts_of, lines_of}
 use Rattle.bk_script.proofs.Fronts.{StopsAt, run_whole, behind_whole, behind_stops}
@@ -149,9 +148,11 @@ ended_takes : (s : List ℕ) (x : List ℕ × List ℕ) → ended_line_at s ≡ 
 ended_takes s x e =
     let a = bind_some (after 10 (behind is_no_lf s)) _ x e in
     let line = run is_no_lf s in
-    let ends = pair_parts (without_cr line) x.0 a.0 x.1 a.2 in
-    (line ++ 10 ∷ [], subst (λ (l : List ℕ). IsEndedLine (line ++ 10 ∷ []) l) ends.0 (is_ended line (run_passes is_no_lf s)),
-      run_split is_no_lf s ∙ ap (λ (l : List ℕ). line ++ l) (after_takes 10 (behind is_no_lf s) a.0 a.1 ∙ ap (λ (l : List ℕ). 10 ∷ l) ends.1) ∙ sym (append_assoc line (10 ∷ []) x.1))
+    let ends = pair_parts (without_cr line) x.0 a.0 x.1 a.2 in (
+      line ++ 10 ∷ [],
+      subst (λ (l : List ℕ). IsEndedLine (line ++ 10 ∷ []) l) ends.0 (is_ended line (run_passes is_no_lf s)),
+      run_split is_no_lf s ∙ ap (λ (l : List ℕ). line ++ l) (after_takes 10 (behind is_no_lf s) a.0 a.1 ∙ ap (λ (l : List ℕ). 10 ∷ l) ends.1) ∙ sym (append_assoc line (10 ∷ []) x.1),
+    )
 
 ended_by : (line r : List ℕ) → list_all is_no_lf line ≡ true → ended_line_at (line ++ 10 ∷ r) ≡ Some (without_cr line, r)
 ended_by line r all = rw (behind_whole is_no_lf line (10 ∷ r) all refl, run_whole is_no_lf line (10 ∷ r) all refl) refl
@@ -226,7 +227,7 @@ lf_some s k found =
     let n = byte_len 10 s (Some k) k found refl in
     let front : run is_no_lf s ≡ take k s = sym (run_is is_no_lf s) ∙ ap (λ (i : ℕ). take i s) (sym n) in
     let back : behind is_no_lf s ≡ 10 ∷ drop (k + 1) s =
-          sym (behind_is is_no_lf s) ∙ ap (λ (i : ℕ). drop i s) (sym n) ∙ drop_more s k 0 found.0.high ∙ ap (λ (b : ℕ). b ∷ drop (k + 1) s) (eqb-true (get_or s k 0) 10 found.1) in
+    sym (behind_is is_no_lf s) ∙ ap (λ (i : ℕ). drop i s) (sym n) ∙ drop_more s k 0 found.0.high ∙ ap (λ (b : ℕ). b ∷ drop (k + 1) s) (eqb-true (get_or s k 0) 10 found.1) in
     rw (front, back) refl
 
 pub lf_found : (s : List ℕ) (k : ℕ) (line : List ℕ) → IsFirstByte (is_byte 10) s (Some k) → line ≡ without_cr (take k s) → ended_line_at s ≡ Some (line, take (length s - (k + 1)) (drop (k + 1) s))

@@ -1,9 +1,9 @@
 -- Numbers: what is read is spelled so, and what is spelled so is read.
-use Rattle.std.proofs.Common.{◌≡◌, ℕ, zero, suc, ◌+◌, ◌-◌, ◌*◌, ◌<◌, ◌≤◌, Bool, true, false, ◌&&◌, cond, leb, eqb, List, [], ◌∷◌, ◌++◌, length, drop, get_or, Option, Some, None, refl, sym, ap, subst, ◌∙◌, arith, inl, inr, codes, ◌⊎◌}
-use Rattle.std.proofs.lemmas.Bool.{cases_Bool, and_parts, and_from, leb-true, le-leb, eqb-true, both_ways}
+use Rattle.std.proofs.Common.{◌≡◌, ℕ, ◌+◌, ◌*◌, ◌<◌, ◌≤◌, Bool, true, false, leb, eqb, List, [], ◌∷◌, length, drop, get_or, Option, Some, None, refl, sym, ap, subst, ◌∙◌, arith, inl, inr, codes, ◌⊎◌}
+use Rattle.std.proofs.lemmas.Bool.{cases_Bool, and_parts, and_from, leb-true, le-leb, eqb-true}
 use Rattle.std.proofs.lemmas.List.{drop_more}
 use Rattle.std.specs.List.{list_all}
-use Rattle.xt_spec.specs.Reference.{is_decimal_digit, digit_value, number_behind, AreDigits}
+use Rattle.xt_spec.specs.Reference.{is_decimal_digit, digit_value, number_behind}
 use Rattle.xt_lex.specs.Scan.{maybe}
 use Rattle.xt_lex.proofs.Numbers.{number_grows}
 use Rattle.bk_script.specs.Word.{IsNumber, begins_with}
@@ -53,7 +53,7 @@ from_takes n (b ∷ bs) m le e = from_by n b bs m (λ k. from_takes k bs m) (num
 from_again : (n : ℕ) (ds : List ℕ) → list_all is_decimal_digit ds ≡ true → number_behind 10 n ds ≤ top → number_from n ds ≡ Some (number_behind 10 n ds)
 from_again n [] all small = refl
 from_again n (b ∷ bs) all small =
-    let both = and_parts _ _ all in
+    let both = and_parts (is_decimal_digit b) (list_all is_decimal_digit bs) all in
     let grows = number_grows 10 (n * 10 + digit_value b) bs (omega arith) in
     rw (with_again n b both.0 (omega arith)) (from_again (n * 10 + digit_value b) bs both.1 small)
 

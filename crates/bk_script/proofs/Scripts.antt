@@ -1,7 +1,7 @@
 -- Scripts: what is read is one, and what is one is read; each fault so.
-use Rattle.std.proofs.Common.{◌≡◌, ℕ, zero, suc, ◌+◌, ◌<◌, ◌≤◌, Bool, true, false, ltb, List, [], ◌∷◌, ◌++◌, length, Option, Some, None, Result, Ok, Err, refl, sym, ap, subst, ◌∙◌, arith, inl, inr, ◌⊎◌, append_assoc, append-nil, le_refl}
+use Rattle.std.proofs.Common.{◌≡◌, ℕ, ◌+◌, ◌<◌, ◌≤◌, false, ltb, List, [], ◌∷◌, ◌++◌, length, Option, Some, None, Result, Ok, Err, refl, sym, ap, subst, ◌∙◌, arith, inl, inr, ◌⊎◌, append_assoc, append-nil}
 use Rattle.std.specs.Prelude.{IfOk, IfErr}
-use Rattle.std.proofs.lemmas.Bool.{cases_Bool, ltb-true, ltb-false, lt-ltb, le-ltb, both_ways}
+use Rattle.std.proofs.lemmas.Bool.{cases_Bool, ltb-true, ltb-false, lt-ltb, le-ltb}
 use Rattle.std.proofs.lemmas.List.{length-append}
 use Rattle.bk_script.specs.Command.{Command}
 use Rattle.bk_script.specs.Script.{IsLine, joined, AreRead, IsScript, IsReadTo, IsFaultOf}
@@ -181,12 +181,22 @@ script_takes bytes commands e =
 
 fault_by : (bytes : List ℕ) (e : ScriptFault) → length bytes ≤ 1048576 → IsStopped 1 [] (lines_of bytes) e → IsFaultOf bytes e
 fault_by bytes fault.Long size s = absurd s.stops
-fault_by bytes (fault.BadLine number) size s =
-    (s.before, s.line, s.own, record { behind = s.behind; split = subst (Rattle.bk_script.specs.Script.IsSplit bytes) s.whole (split_takes bytes); read = s.read; size = size; count = s.count (omega arith) },
-      (λ found is. let both : ◌≡◌ {A = Option (Option Command)} None (Some found) = sym s.stops.0 ∙ line_again s.line found is in absurd cc), omega (arith, s.stops.1))
-fault_by bytes fault.Many size s =
-    (s.before, s.line, s.own, record { behind = s.behind; split = subst (Rattle.bk_script.specs.Script.IsSplit bytes) s.whole (split_takes bytes); read = s.read; size = size; count = s.count (omega arith) },
-      (let le = s.count (omega arith) in omega (arith, s.stops.1, le)), (s.stops.0.0, line_takes s.line (Some s.stops.0.0) s.stops.0.1))
+fault_by bytes (fault.BadLine number) size s = (
+  s.before,
+  s.line,
+  s.own,
+  record { behind = s.behind; split = subst (Rattle.bk_script.specs.Script.IsSplit bytes) s.whole (split_takes bytes); read = s.read; size = size; count = s.count (omega arith) },
+  (λ found is. let both : ◌≡◌ {A = Option (Option Command)} None (Some found) = sym s.stops.0 ∙ line_again s.line found is in absurd cc),
+  omega (arith, s.stops.1),
+)
+fault_by bytes fault.Many size s = (
+  s.before,
+  s.line,
+  s.own,
+  record { behind = s.behind; split = subst (Rattle.bk_script.specs.Script.IsSplit bytes) s.whole (split_takes bytes); read = s.read; size = size; count = s.count (omega arith) },
+  (let le = s.count (omega arith) in omega (arith, s.stops.1, le)),
+  (s.stops.0.0, line_takes s.line (Some s.stops.0.0) s.stops.0.1),
+)
 fault_by bytes fault.NoMemory size s = absurd s.stops
 
 pub fault_takes : (bytes : List ℕ) (e : ScriptFault) → script_read bytes ≡ Err e → IsFaultOf bytes e
@@ -289,3 +299,7 @@ ok_by bytes view (Err e) is = tt
 pub err_by : {X : Type 0} (bytes : List ℕ) (view : X → List Command) (r : Result X ScriptFault) → Answers view r (script_read bytes) → IfErr r (λ e. IsFaultOf bytes e)
 err_by bytes view (Ok v) is = tt
 err_by bytes view (Err e) is = fails_takes bytes e is
+
+pub only_by : {X : Type 0} (bytes : List ℕ) (view : X → List Command) (r : Result X ScriptFault) → Answers view r (script_read bytes) → IfErr r (λ e. (commands : List Command) → IsScript bytes commands → e ≡ fault.NoMemory)
+only_by bytes view (Ok v) is = tt
+only_by bytes view (Err e) is = λ commands script. no_fault bytes commands e script (fails_takes bytes e is)

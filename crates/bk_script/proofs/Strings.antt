@@ -1,14 +1,14 @@
 -- Strings: what is read is spelled so, and what is spelled so is read.
-use Rattle.std.proofs.Common.{◌≡◌, ℕ, zero, suc, ◌+◌, ◌-◌, ◌*◌, ◌<◌, ◌≤◌, Bool, true, false, ◌&&◌, cond, leb, ltb, eqb, List, [], ◌∷◌, ◌++◌, length, drop, get_or, Option, Some, None, ◌⊎◌, refl, sym, ap, subst, ◌∙◌, arith, inl, inr, codes, append_assoc, append-nil, encode_utf8}
-use Rattle.std.proofs.lemmas.Bool.{cases_Bool, and_parts, and_from, leb-true, le-leb, eqb-true}
+use Rattle.std.proofs.Common.{◌≡◌, ℕ, zero, suc, ◌+◌, ◌*◌, ◌<◌, ◌≤◌, Bool, true, false, ◌&&◌, cond, leb, ltb, eqb, List, [], ◌∷◌, ◌++◌, length, drop, get_or, Option, Some, None, ◌⊎◌, refl, sym, ap, subst, ◌∙◌, arith, inl, inr, append_assoc, append-nil, encode_utf8}
+use Rattle.std.proofs.lemmas.Bool.{cases_Bool, and_parts, leb-true, le-leb, eqb-true}
 use Rattle.std.proofs.lemmas.Bool.Decides.{nat_tests}
 use Rattle.std.proofs.lemmas.List.{length-append, drop_more}
 use Rattle.std.specs.List.{list_all, concat}
 use Rattle.xt_spec.specs.Reference.{is_hexadecimal_digit, digit_value, number_behind, AreDigits}
 use Rattle.xt_lex.specs.Scan.{◌>>=◌, run, behind, after}
 use Rattle.xt_lex.proofs.StepLemmas.{bind_some, run_split, run_passes, after_takes}
-use Rattle.bk_script.specs.Word.{is_scalar, is_plain, IsCodePoint, IsEscape, IsStringPart, IsString, AreSpelled}
-use Rattle.bk_script.specs.Reading.{Stops, ascii_at, scalar_of, code_point_at, escape_by, escape_at, string_part_at, parts_of, consed, IsPushed, string_body_at, string_at}
+use Rattle.bk_script.specs.Word.{is_scalar, is_plain, IsCodePoint, IsEscape, IsStringPart, IsString}
+use Rattle.bk_script.specs.Reading.{Stops, ascii_at, scalar_of, code_point_at, escape_by, escape_at, string_part_at, parts_of, IsPushed, string_body_at, string_at}
 use Rattle.bk_script.specs.declared.stop.Stop.{Stop}
 use Rattle.bk_script.specs.declared.stop.Stop.TheVariants as stops
 use Rattle.bk_script.proofs.Fronts.{StopsAt, run_whole, behind_whole, behind_stops}
@@ -62,14 +62,16 @@ code_point_takes s x e =
     let ends = pair_parts b.0 x.0 d.0 x.1 d.2 in
     let is = scalar_takes digits b.0 b.1 in
     let point : IsCodePoint (117 ∷ 123 ∷ (digits ++ 125 ∷ [])) b.0 = record {
-          digits = digits;
-          spelled = record { some = some_from_length digits is.some; all = run_passes is_hexadecimal_digit a.0; spell = is.spell };
-          short = is.short;
-          scalar = is.scalar;
-          whole = refl;
-        } in
-    (123 ∷ (digits ++ 125 ∷ []), subst (λ (k : ℕ). IsCodePoint (117 ∷ 123 ∷ (digits ++ 125 ∷ [])) k) ends.0 point,
-      after_takes 123 s a.0 a.1 ∙ ap (λ (t : List ℕ). 123 ∷ t) (run_split is_hexadecimal_digit a.0 ∙ ap (λ (t : List ℕ). digits ++ t) (after_takes 125 (behind is_hexadecimal_digit a.0) d.0 d.1 ∙ ap (λ (t : List ℕ). 125 ∷ t) ends.1) ∙ sym (append_assoc digits (125 ∷ []) x.1)))
+      digits = digits;
+      spelled = record { some = some_from_length digits is.some; all = run_passes is_hexadecimal_digit a.0; spell = is.spell };
+      short = is.short;
+      scalar = is.scalar;
+      whole = refl;
+    } in (
+      123 ∷ (digits ++ 125 ∷ []),
+      subst (λ (k : ℕ). IsCodePoint (117 ∷ 123 ∷ (digits ++ 125 ∷ [])) k) ends.0 point,
+      after_takes 123 s a.0 a.1 ∙ ap (λ (t : List ℕ). 123 ∷ t) (run_split is_hexadecimal_digit a.0 ∙ ap (λ (t : List ℕ). digits ++ t) (after_takes 125 (behind is_hexadecimal_digit a.0) d.0 d.1 ∙ ap (λ (t : List ℕ). 125 ∷ t) ends.1) ∙ sym (append_assoc digits (125 ∷ []) x.1)),
+    )
 
 code_point_again : (digits r : List ℕ) (c : ℕ) → AreDigits 16 is_hexadecimal_digit digits c → length digits ≤ 6 → is_scalar c ≡ true → code_point_at (123 ∷ (digits ++ 125 ∷ r)) ≡ Some (c, r)
 unfolding code_point_at
@@ -184,9 +186,11 @@ string_takes s x e =
     let read = parts_of string_part_at a.0 in
     let b = bind_some (after 34 read.1) (λ (rest : List ℕ). Some (concat read.0, rest)) x a.2 in
     let ends = pair_parts (concat read.0) x.0 b.0 x.1 b.2 in
-    let spelled = parts_take string_part_at IsStringPart part_takes a.0 in
-    (34 ∷ (spelled.0 ++ 34 ∷ []), (spelled.0, read.0, spelled.1, refl, sym ends.0),
-      after_takes 34 s a.0 a.1 ∙ ap (λ (l : List ℕ). 34 ∷ l) (spelled.2 ∙ ap (λ (l : List ℕ). spelled.0 ++ l) (after_takes 34 read.1 b.0 b.1 ∙ ap (λ (l : List ℕ). 34 ∷ l) ends.1) ∙ sym (append_assoc spelled.0 (34 ∷ []) x.1)))
+    let spelled = parts_take string_part_at IsStringPart part_takes a.0 in (
+      34 ∷ (spelled.0 ++ 34 ∷ []),
+      (spelled.0, read.0, spelled.1, refl, sym ends.0),
+      after_takes 34 s a.0 a.1 ∙ ap (λ (l : List ℕ). 34 ∷ l) (spelled.2 ∙ ap (λ (l : List ℕ). spelled.0 ++ l) (after_takes 34 read.1 b.0 b.1 ∙ ap (λ (l : List ℕ). 34 ∷ l) ends.1) ∙ sym (append_assoc spelled.0 (34 ∷ []) x.1)),
+    )
 
 pub string_again : (t r v : List ℕ) → IsString t v → string_at (t ++ r) ≡ Some (v, r)
 unfolding string_at string_body_at

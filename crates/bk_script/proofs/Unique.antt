@@ -1,7 +1,7 @@
 -- A line is at most one command, of all that the grammar has: its words are read one after the other, and each is read
 -- in one way.
-use Rattle.std.proofs.Common.{◌≡◌, ℕ, zero, suc, ◌+◌, ◌<◌, ◌≤◌, Bool, true, false, ◌&&◌, eqb, not, cond, List, [], ◌∷◌, ◌++◌, length, replicate, Option, Some, None, refl, sym, ap, subst, ◌∙◌, arith, inl, inr, append_assoc, append-nil, eqb-true, codes, bytes_eq}
-use Rattle.std.proofs.lemmas.Bool.{cases_Bool, and_parts, and_from}
+use Rattle.std.proofs.Common.{◌≡◌, ℕ, ◌<◌, Bool, true, false, eqb, cond, List, [], ◌∷◌, ◌++◌, length, Option, Some, None, refl, sym, ap, subst, ◌∙◌, arith, inl, inr, append-nil, codes, bytes_eq}
+use Rattle.std.proofs.lemmas.Bool.{and_parts}
 use Rattle.std.proofs.lemmas.Bool.Decides.{nat_tests}
 use Rattle.std.proofs.lemmas.List.{length-append, length-replicate}
 use Rattle.std.specs.List.{list_all}
@@ -13,7 +13,7 @@ use Rattle.xt_lex.proofs.Spelling.{list_all_weaker}
 use Rattle.xt_lex.proofs.StepLemmas.{run_split}
 use Rattle.bk_script.specs.Word.{is_blank, IsBlank, IsNumber, Place, IsPlace, Side, side_first, side_last, side_before, side_after, side_text, IsString, IsWord, MayFollow, Word, letters, number, place, side, qname, string, file, AreWords}
 use Rattle.bk_script.specs.Command.{Command, edit_text, put, attr, drop_attr, insert, insert_at, delete, move, extract, inline, undo, redo, burst, tree, owner, words_of, IsCommandLine}
-use Rattle.bk_script.specs.Reading.{is_no_blank, number_of, step_at, parts_of, consed, string_at}
+use Rattle.bk_script.specs.Reading.{is_no_blank, number_of, step_at, parts_of, string_at}
 use Rattle.bk_script.proofs.Fronts.{StopsAt, run_whole, behind_whole, behind_stops}
 use Rattle.bk_script.proofs.Numbers.{number_again}
 use Rattle.bk_script.proofs.Parts.{Shrinks, parts_step, parts_stop}

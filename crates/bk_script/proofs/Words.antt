@@ -1,14 +1,14 @@
 -- Words and the spaces round them.
-use Rattle.std.proofs.Common.{◌≡◌, ℕ, zero, suc, ◌+◌, ◌<◌, ◌≤◌, Bool, true, false, eqb, not, ◌&&◌, List, [], ◌∷◌, ◌++◌, length, replicate, Option, Some, None, refl, sym, ap, subst, ◌∙◌, arith, inl, inr, append_assoc, eqb-true}
-use Rattle.std.proofs.lemmas.Bool.{cases_Bool, and_parts, and_from, not-false}
+use Rattle.std.proofs.Common.{◌≡◌, ℕ, zero, suc, Bool, true, not, ◌&&◌, List, [], ◌∷◌, ◌++◌, replicate, Some, refl, sym, ap, subst, ◌∙◌, arith, inl, inr, eqb-true}
+use Rattle.std.proofs.lemmas.Bool.{and_parts, not-false}
 use Rattle.std.proofs.lemmas.Bool.Decides.{nat_tests}
 use Rattle.std.specs.List.{list_all}
 use Rattle.std.specs.Prelude.{◌==◌}
 use Rattle.xt_spec.specs.Reference.{is_decimal_digit}
-use Rattle.xt_lex.specs.Scan.{◌>>=◌, run, behind}
+use Rattle.xt_lex.specs.Scan.{run, behind}
 use Rattle.xt_lex.proofs.Spelling.{list_all_weaker, list_all_joined}
 use Rattle.xt_lex.proofs.StepLemmas.{run_split, run_passes, bind_some}
-use Rattle.bk_script.specs.Word.{is_blank, IsBlank, IsNumber, IsStep, Place, IsPlace, IsString, AreSpelled, MayFollow, Word, letters, number, place, string, AreWords}
+use Rattle.bk_script.specs.Word.{is_blank, IsBlank, IsNumber, IsStep, Place, IsPlace, IsString, AreSpelled, MayFollow, string, AreWords}
 use Rattle.bk_script.specs.Reading.{is_no_blank, word_at, string_at, last_string_at}
 use Rattle.bk_script.proofs.Fronts.{StopsAt, run_whole, behind_whole, behind_stops}
 use Rattle.bk_script.proofs.Strings.{string_takes, string_again, choose}

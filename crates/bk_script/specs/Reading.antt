@@ -6,12 +6,12 @@
 --   command_at    the built command that a line's text is
 --   lines_of      the lines of the bytes
 --   lines_read    the commands of lines, or the first fault
-use Rattle.std.specs.Prelude.{◌≡◌, ℕ, zero, suc, ◌+◌, ◌-◌, ◌*◌, List, [], ◌∷◌, ◌++◌, length, take, codes, bytes_eq, Bool, true, false, not, ◌&&◌, ◌||◌, ◌==◌, nat_le, nat_lt, Option, Some, None, Result, Ok, Err, if◌then◌else◌, encode_utf8}
+use Rattle.std.specs.Prelude.{◌≡◌, ℕ, zero, suc, ◌+◌, ◌-◌, ◌*◌, List, [], ◌∷◌, ◌++◌, length, take, codes, bytes_eq, Bool, true, not, ◌&&◌, ◌==◌, nat_le, nat_lt, Option, Some, None, Result, Ok, Err, if◌then◌else◌, encode_utf8}
 use Rattle.std.specs.List.{list_all, concat}
 use Rattle.std.specs.Str.{is_utf8}
 use Rattle.xt_spec.specs.Reference.{is_decimal_digit, is_hexadecimal_digit, digit_value, number_behind}
 use Rattle.xt_lex.specs.Scan.{◌>>=◌, maybe, run, behind, after}
-use Rattle.bk_script.specs.Word.{Place, is_blank, begins_with, is_plain, is_scalar}
+use Rattle.bk_script.specs.Word.{is_blank, is_plain, is_scalar}
 use Rattle.bk_script.specs.Command.{Command, edit_text, burst}
 use Rattle.bk_script.specs.Script.{is_no_lf, ends_in_cr}
 use Rattle.bk_script.specs.declared.stop.Stop.{Stop}

@@ -16,7 +16,7 @@ mod string;
 mod tests;
 
 pub use command::Command;
-pub use laws::{one_command, one_script};
+pub use laws::{one_command, one_fault, one_script, one_value};
 pub use op::Op;
 pub use place::Place;
 pub use script::{ScriptFault, read_script};

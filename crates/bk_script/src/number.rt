@@ -29,7 +29,11 @@ fn with_digit(n: u32, b: u8) -> Option<u32>
         return None;
     }
     let more = u64::from(n) * 10 + u64::from(b - b'0');
-    if more <= MAX_NUMBER { Some(more as u32) } else { None }
+    if more <= MAX_NUMBER {
+        Some(more as u32)
+    } else {
+        None
+    }
 }
 
 /// The number that digits spell, zeros at the front among them.

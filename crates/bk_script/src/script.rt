@@ -1,6 +1,8 @@
 //! Scripts.
 
-ghost use Rattle.std.specs.Prelude.{◌≡◌, ◌+◌, ◌≤◌, IfOk, IfErr, map, Some, [], length, option_map};
+ghost use Rattle.std.specs.Prelude.{◌≡◌, ◌+◌, ◌≤◌, IfOk, IfErr, map, Some, [], List, length, option_map};
+ghost use Rattle.bk_script.specs.Command as model;
+ghost use Rattle.bk_script.specs.declared.script.ScriptFault.TheVariants.{NoMemory};
 ghost use Rattle.bk_script.specs.Reading.{Answers, added, ended_line_at, without_cr, line_of, lines_of, lines_read, script_read};
 ghost use Rattle.bk_script.specs.Script.{IsScript, IsFaultOf};
 ghost use Rattle.bk_script.specs.View.{command_of};
@@ -51,7 +53,12 @@ fn ended_line(bytes: &[u8]) -> Option<(&[u8], &[u8])>
 }
 
 /// What the line of this number counts is appended.
-fn add_line(alloc: Global, line: &[u8], number: u32, commands: &mut Vec<Command>) -> Result<(), ScriptFault>
+fn add_line(
+    alloc: Global,
+    line: &[u8],
+    number: u32,
+    commands: &mut Vec<Command>,
+) -> Result<(), ScriptFault>
     ensures { Answers (λ _. map command_of commands.new.items) result (added (line_of line.now) number (map command_of commands.old.items)) }
 {
     let command = match line_of(alloc, line) {
@@ -99,6 +106,8 @@ fn read(alloc: Global, bytes: &[u8]) -> Result<Vec<Command>, ScriptFault>
 pub fn read_script(alloc: Global, bytes: &[u8]) -> Result<Vec<Command>, ScriptFault>
     ensures value { IfOk result (λ v. IsScript bytes.now (map command_of v.items)) }
     ensures fault { IfErr result (λ e. IsFaultOf bytes.now e) }
+    // What is a script is read.
+    ensures only { IfErr result (λ e. (commands : List model.Command) → IsScript bytes.now commands → e ≡ NoMemory) }
 {
     read(alloc, bytes)
 }

@@ -5,5 +5,5 @@ use Rattle.bk_script.proofs.laws.one_command.Goals as goal
 pub returns-clause-one : goal.returns-clause-one
 returns-clause-one c = one_reading
 
-pub returns-clause-others : goal.returns-clause-others
-returns-clause-others c = command_or_none
+pub returns-clause-none : goal.returns-clause-none
+returns-clause-none c = command_or_none

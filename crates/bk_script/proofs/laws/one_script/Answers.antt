@@ -1,4 +1,4 @@
-use Rattle.bk_script.proofs.Scripts.{one_reading, no_fault, one_fault}
+use Rattle.bk_script.proofs.Scripts.{one_reading, no_fault}
 use Rattle.bk_script.proofs.laws.one_script.Goals as goal
 
 pub returns-clause-one : goal.returns-clause-one
@@ -6,6 +6,3 @@ returns-clause-one c = one_reading
 
 pub returns-clause-fault : goal.returns-clause-fault
 returns-clause-fault c = no_fault
-
-pub returns-clause-one_fault : goal.returns-clause-one_fault
-returns-clause-one_fault c = one_fault

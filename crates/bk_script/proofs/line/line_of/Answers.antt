@@ -1,6 +1,6 @@
-use Rattle.std.proofs.Common.{◌≡◌, sym, ap, ◌∙◌, true, false}
+use Rattle.std.proofs.Common.{sym, ap, ◌∙◌}
 use Rattle.bk_script.specs.Reading.{is_passed_over}
-use Rattle.bk_script.proofs.Lines.{line_no_utf8, line_over, line_found, line_stopped}
+use Rattle.bk_script.proofs.Lines.{line_no_utf8, line_over, line_found}
 use Rattle.bk_script.proofs.line.line_of.Goals as goal
 
 pub returns-in_default : goal.returns-in_default

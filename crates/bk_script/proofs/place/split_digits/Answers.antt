@@ -1,4 +1,4 @@
-use Rattle.std.proofs.Common.{◌≡◌, arith}
+use Rattle.std.proofs.Common.{arith}
 use Rattle.std.proofs.lemmas.List.Sums.{prefix_len-le-length}
 use Rattle.xt_spec.specs.Reference.{is_decimal_digit}
 use Rattle.xt_lex.proofs.Runs.{behind_is, run_is}

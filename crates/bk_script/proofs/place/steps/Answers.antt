@@ -1,6 +1,6 @@
-use Rattle.std.proofs.Common.{◌≡◌, List, ℕ, [], ◌∷◌, ◌++◌, sym, ap, ◌∙◌, Some}
+use Rattle.std.proofs.Common.{◌≡◌, List, ℕ, [], ◌∷◌, ◌++◌, sym, ap, Some}
 use Rattle.bk_script.specs.Reading.{step_at, parts_of}
-use Rattle.bk_script.proofs.Places.{with_numbers, step_shrinks, steps_more, steps_end}
+use Rattle.bk_script.proofs.Places.{step_shrinks, steps_more, steps_end}
 use Rattle.bk_script.proofs.place.steps.Goals as goal
 
 pub loop-n-smaller : goal.loop-n-smaller

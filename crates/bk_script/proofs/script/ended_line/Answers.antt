@@ -1,4 +1,4 @@
-use Rattle.std.proofs.Common.{◌≡◌, ◌+◌, take, drop, Some, None, sym, ap, ◌∙◌, arith}
+use Rattle.std.proofs.Common.{sym}
 use Rattle.bk_script.proofs.Lines.{lf_none, lf_found}
 use Rattle.bk_script.proofs.script.ended_line.Goals as goal
 

@@ -1,4 +1,4 @@
-use Rattle.std.proofs.Common.{◌≡◌, List, ℕ, [], ◌∷◌, sym, map, arith, Some}
+use Rattle.std.proofs.Common.{[], sym, map, arith}
 use Rattle.std.proofs.lemmas.Result.{err_from_is_err_and}
 use Rattle.bk_script.specs.Reading.{lines_of, lines_read}
 use Rattle.bk_script.specs.View.{command_of}

@@ -1,6 +1,5 @@
-use Rattle.std.proofs.Common.{arith, get_or, refl, sym, ap, ◌∙◌, ◌+◌, ◌*◌, drop}
-use Rattle.xt_spec.specs.Reference.{number_behind}
-use Rattle.bk_script.proofs.Strings.{bound_small, bound_next, digit_more}
+use Rattle.std.proofs.Common.{arith}
+use Rattle.bk_script.proofs.Strings.{bound_small}
 use Rattle.bk_script.proofs.string.hexadecimal_value.Goals as goal
 
 pub overflow_mul-n : goal.overflow_mul-n

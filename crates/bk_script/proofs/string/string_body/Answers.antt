@@ -1,11 +1,11 @@
-use Rattle.std.proofs.Common.{◌≡◌, List, ℕ, [], ◌∷◌, ◌++◌, sym, ap, ◌∙◌, Some, None, Err, subst}
+use Rattle.std.proofs.Common.{sym, ap, ◌∙◌, Err, subst}
 use Rattle.std.specs.Prelude.{string_bytes}
 use Rattle.std.specs.Str.{IsUtf8}
 use Rattle.bk_script.proofs.Utf8.{plain_behind, pushed_utf8}
 use Rattle.bk_script.specs.Word.{is_plain}
 use Rattle.bk_script.specs.Reading.{string_body_at}
 use Rattle.bk_script.proofs.Fronts.{StopsAt, behind_stops}
-use Rattle.bk_script.proofs.Strings.{with_value, body_front, body_pushed, pushed_stops, pushed_less, body_ends, body_none, body_split, body_stopped}
+use Rattle.bk_script.proofs.Strings.{body_pushed, pushed_stops, pushed_less, body_ends, body_none, body_split, body_stopped}
 use Rattle.std.proofs.lemmas.Result.{err_from_is_err_and}
 use Rattle.xt_lex.proofs.StepLemmas.{after_takes}
 use Rattle.bk_script.proofs.string.string_body.Goals as goal

@@ -1,6 +1,5 @@
-use Rattle.std.proofs.Common.{◌≡◌, List, ℕ, length, [], sym, ap, ◌∙◌, true, false, arith, Option, Some}
+use Rattle.std.proofs.Common.{length, sym, ap, ◌∙◌, arith}
 use Rattle.std.proofs.lemmas.Bool.{eqb-false}
-use Rattle.bk_script.specs.Reading.{step_at, parts_of}
 use Rattle.bk_script.proofs.Places.{read_numbers, found_parts}
 use Rattle.bk_script.proofs.place.Place.read.Goals as goal
 
