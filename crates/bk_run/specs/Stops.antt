@@ -1,0 +1,47 @@
+-- What a crash at any point of a run leaves; of this project.
+--
+--   saved_after    the book last saved after these steps
+--   IsOfOneBurst   the files of one save are recovered, and what was told is a front of the output
+--   IsStopped      .. or nothing was told, and the files are as a crash at the start could have left them
+--   IsUntouched    the files are as a crash at the start could have left them
+use Rattle.std.specs.Prelude.{◌≡◌, ◌⊎◌, ℕ, ◌<◌, List, [], ◌∷◌, ◌++◌, length, take, Some}
+use Rattle.bk_desk.specs.Disk.{DiskState, CrashState, IsCrashImage}
+use Rattle.ed_spec.specs.Book.{Book}
+use Rattle.ed_spec.specs.Session.{Step}
+use Rattle.jr_burst.specs.SavedFiles.{recovered_files}
+use Rattle.bk_run.specs.Replies.{reply_text, replies_text}
+
+-- the book last saved after these steps, where this one was before
+abbrev pub saved_after : Book → List Step → Book
+saved_after book [] = book
+saved_after book (step ∷ steps) = saved_after step.session.saved steps
+
+-- .. after the next step alone
+abbrev pub saved_next : Book → List Step → Book
+saved_next book [] = book
+saved_next book (step ∷ steps) = step.session.saved
+
+-- this is not all of the next reply
+abbrev pub IsCut : List ℕ → List Step → Type 0
+IsCut front [] = Unit {0}
+IsCut front (step ∷ steps) = length front < length (reply_text step.reply)
+
+-- Some replies were told whole, and of what comes next a front that is not all of the next reply. The files recovered are
+-- those last saved by the commands whose replies were told whole, or by the next command too, where that is a burst.
+pub record IsOfOneBurst (start : DiskState) (first : Book) (steps : List Step) (last : List ℕ) (crash : CrashState) : Type 0 where
+  pub whole : List Step
+  pub rest : List Step
+  pub parts : steps ≡ whole ++ rest
+  pub count : ℕ
+  pub told : crash.told ≡ start.told ++ (replies_text whole ++ take count (replies_text rest ++ last))
+  pub cut : IsCut (take count (replies_text rest ++ last)) rest
+  pub recovers : (recovered_files crash.image ≡ Some (saved_after first whole)) ⊎ (recovered_files crash.image ≡ Some (saved_next (saved_after first whole) rest))
+
+-- where something was pending at the start and nothing was told, the files may be as a crash at the start could have left them
+abbrev pub IsStopped : DiskState → Book → List Step → List ℕ → CrashState → Type 0
+IsStopped start first steps last crash = IsOfOneBurst start first steps last crash ⊎ ((crash.told ≡ start.told) × IsCrashImage start crash.image)
+
+-- a run that ends before it recovers
+pub record IsUntouched (start : DiskState) (crash : CrashState) : Type 0 where
+  pub image : IsCrashImage start crash.image
+  pub told : (more : List ℕ) × (crash.told ≡ start.told ++ more)

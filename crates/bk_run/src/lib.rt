@@ -1,0 +1,4 @@
+//! The commands of a script over a session, and what is told of them.
+#![tactic(auto)]
+
+mod replies;
