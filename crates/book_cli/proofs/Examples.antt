@@ -1,12 +1,12 @@
 -- The definitions of this crate, computed on right and on wrong cases.
-use Rattle.std.proofs.Common.{◌≡◌, ◌≢◌, ℕ, List, [], ◌∷◌, ◌++◌, refl, codes, true, false, Option, Some, None, encode_utf8}
+use Rattle.std.proofs.Common.{◌≡◌, ℕ, List, [], ◌∷◌, refl, codes, true, false, Option, Some, None}
 use Rattle.std.specs.Str.{is_utf8, chars}
 use Rattle.std.proofs.Math.Utf8.{encode}
 use Rattle.bk_desk.specs.declared.desk_name.DeskName.{DeskName}
 use Rattle.bk_name.specs.FileName.{is_file_name}
 use Rattle.book_cli.specs.TextValue.{text_value, quoted_value, char_of}
 use Rattle.book_cli.specs.Words.{is_root, root_of}
-use Rattle.book_cli.specs.Output.{FileOutput, missing, IsOutput, usage_line, missing_line}
+use Rattle.book_cli.specs.Output.{FileOutput, missing, IsOutput, usage_line}
 use Rattle.book_cli.specs.Effects.{file_steps}
 
 -- line ends are as read: CR LF is one LF, a reference to a CR stays

@@ -1,4 +1,4 @@
-use Rattle.std.proofs.Common.{◌≡◌, ◌≤◌, ◌-◌, length}
+use Rattle.std.proofs.Common.{◌≡◌, ◌-◌, length}
 use Rattle.book_cli.proofs.real.read_up_to.Given as goal
 
 abbrev pub invariant-loop-bytes : goal.invariant-loop-bytes
