@@ -8,6 +8,7 @@ use Rattle.book_cli.specs.TextValue.{text_value, quoted_value, char_of}
 use Rattle.book_cli.specs.Words.{is_root, root_of}
 use Rattle.book_cli.specs.Output.{FileOutput, missing, IsOutput, usage_line}
 use Rattle.book_cli.specs.Effects.{file_steps}
+use Rattle.book_cli.specs.RealFiles.{synced_with, IsFrontOf}
 
 -- line ends are as read: CR LF is one LF, a reference to a CR stays
 lines : text_value (0x61 ∷ 0xD ∷ 0xA ∷ 0xD ∷ 0x62 ∷ []) ≡ 0x61 ∷ 0xA ∷ 0xA ∷ 0x62 ∷ []
@@ -70,3 +71,17 @@ absent = missing refl refl refl
 -- a step a byte
 steps : file_steps (Some (codes "<a/>")) ≡ 4
 steps = refl
+
+-- with a file each folder above it is synced; with one of no folder the current one alone
+folders : synced_with (codes "a/b/c") ≡ codes "a/b/c" ∷ codes "a" ∷ codes "a/b" ∷ codes "." ∷ []
+folders = refl
+
+no_folder : synced_with (codes "c") ≡ codes "c" ∷ codes "." ∷ []
+no_folder = refl
+
+-- the first bytes of a reader, and no others
+front : IsFrontOf (Some (codes "abc")) 2 (codes "ab")
+front = refl
+
+no_front : IsFrontOf (Some (codes "abc")) 2 (codes "b") → ⊥
+no_front is = absurd (cc)
