@@ -20,6 +20,7 @@ from pathlib import Path
 TOP = Path(__file__).resolve().parent.parent
 MIB = 1_048_576
 LINEAR = 4.4
+KEPT = "## What changes gave"
 WORDS = (
     "the of and a to in is that it was for on are with as his they be at one have this from or had by hot word but what "
     "some we can out other were all there when up use your how said an each she which do their time if will way about many "
@@ -260,6 +261,12 @@ def results(rows, repeats, load, version):
     )
 
 
+def kept(path):
+    """What was written by hand below the tables."""
+    text = path.read_text() if path.exists() else ""
+    return "\n" + text[text.index(KEPT):] if KEPT in text else ""
+
+
 def version_of_xmllint():
     told = subprocess.run(["xmllint", "--version"], capture_output=True, text=True).stderr
     for line in told.splitlines():
@@ -314,7 +321,7 @@ def main():
         return
     page = results(rows, words.repeats, load, version_of_xmllint())
     if words.results != "-":
-        Path(words.results).write_text(page)
+        Path(words.results).write_text(page + kept(Path(words.results)))
     print(page)
     slow = [line for line in linear_of(rows)[2:] if float(line.split("|")[4]) > LINEAR]
     for line in slow:

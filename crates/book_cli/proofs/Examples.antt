@@ -1,13 +1,14 @@
 -- The definitions of this crate, computed on right and on wrong cases.
-use Rattle.std.proofs.Common.{◌≡◌, ◌≢◌, ℕ, List, [], ◌∷◌, ◌++◌, refl, codes, true, false, Option, Some, None, encode_utf8}
+use Rattle.std.proofs.Common.{◌≡◌, ℕ, List, [], ◌∷◌, refl, codes, true, false, Option, Some, None}
 use Rattle.std.specs.Str.{is_utf8, chars}
 use Rattle.std.proofs.Math.Utf8.{encode}
 use Rattle.bk_desk.specs.declared.desk_name.DeskName.{DeskName}
 use Rattle.bk_name.specs.FileName.{is_file_name}
 use Rattle.book_cli.specs.TextValue.{text_value, quoted_value, char_of}
 use Rattle.book_cli.specs.Words.{is_root, root_of}
-use Rattle.book_cli.specs.Output.{FileOutput, missing, IsOutput, usage_line, missing_line}
+use Rattle.book_cli.specs.Output.{FileOutput, missing, IsOutput, usage_line}
 use Rattle.book_cli.specs.Effects.{file_steps}
+use Rattle.book_cli.specs.RealFiles.{synced_with, IsFrontOf}
 
 -- line ends are as read: CR LF is one LF, a reference to a CR stays
 lines : text_value (0x61 ∷ 0xD ∷ 0xA ∷ 0xD ∷ 0x62 ∷ []) ≡ 0x61 ∷ 0xA ∷ 0xA ∷ 0x62 ∷ []
@@ -70,3 +71,17 @@ absent = missing refl refl refl
 -- a step a byte
 steps : file_steps (Some (codes "<a/>")) ≡ 4
 steps = refl
+
+-- with a file each folder above it is synced; with one of no folder the current one alone
+folders : synced_with (codes "a/b/c") ≡ codes "a/b/c" ∷ codes "a" ∷ codes "a/b" ∷ codes "." ∷ []
+folders = refl
+
+no_folder : synced_with (codes "c") ≡ codes "c" ∷ codes "." ∷ []
+no_folder = refl
+
+-- the first bytes of a reader, and no others
+front : IsFrontOf (Some (codes "abc")) 2 (codes "ab")
+front = refl
+
+no_front : IsFrontOf (Some (codes "abc")) 2 (codes "b") → ⊥
+no_front is = absurd (cc)

@@ -1,12 +1,12 @@
 -- How an item of the code prints, and the rest of a list of them.
-use Rattle.std.proofs.Common.{◌≡◌, ◌∙◌, ℕ, suc, ◌<◌, ◌≤◌, ◌+◌, List, [], ◌∷◌, ◌++◌, map, drop, length, get_or, refl, sym, ap, subst, arith, Option, option_map, add-one, drop-cons}
+use Rattle.std.proofs.Common.{◌≡◌, ◌∙◌, ℕ, suc, ◌<◌, ◌≤◌, ◌+◌, List, [], ◌∷◌, ◌++◌, map, drop, length, get_or, refl, sym, ap, subst, arith, Option, option_map, drop-cons}
 use Rattle.xt_spec.specs.Text.{HasTextValue}
 use Rattle.xt_spec.specs.Value.{HasAttributeValue}
 use Rattle.std.proofs.lemmas.Grind.{common_steps}
 use Rattle.xt_spec.specs.Tree.{Item, element_item, leaf_item, text_item, nil}
-use Rattle.bk_spec.specs.Node.{Attr, Head, owned}
+use Rattle.bk_spec.specs.Node.{Head, owned}
 use Rattle.bk_spec.specs.PlainNodes.{GivesHead, GivesAttributes, plain_attr, plain_head}
-use Rattle.bk_spec.specs.Print.{deeper, text_line, element_line, base_line, attribute_line, attribute_lines}
+use Rattle.bk_spec.specs.Print.{deeper, text_line, element_line, base_line, attribute_line}
 use Rattle.xt_lex.specs.declared.token.Span.{Span}
 use Rattle.xt_lex.specs.declared.attribute.AttrSrc.{AttrSrc}
 use Rattle.xt_tree.specs.declared.source.Tag.{Tag as TagSrc}
@@ -15,7 +15,7 @@ use Rattle.xt_tree.specs.declared.source.Src.TheVariants as src
 use Rattle.xt_tree.specs.declared.source.Src.TheOpen.{Src-F}
 use Rattle.xt_tree.specs.declared.source.Src.TheFolds.{fold-roll-Src}
 use Rattle.xt_tree.specs.Meaning.{at_span, item_step, item_of, items_in}
-use Rattle.xt_tree.specs.Places.{Mark, tag_mark, span_mark, mark_step, marks_in, marks_of, tail_marks, IsTagAt, AreInPlace}
+use Rattle.xt_tree.specs.Places.{Mark, tag_mark, span_mark, mark_step, marks_in, marks_of, tail_marks, AreInPlace}
 use Rattle.book_cli.specs.Printing.{parent_of, head_lines, PrintsItem, PrintsItems, PrintsAttributes, attribute_at, AreTagsInPlace}
 use Rattle.book_cli.proofs.TreeLemmas.{element_prints, text_prints, items_then, attributes_then, attributes_none, head_added}
 use Rattle.book_cli.proofs.PlaceLemmas.{head_at}

@@ -1,5 +1,5 @@
 -- A plain document gives nodes, and its items give no others.
-use Rattle.std.proofs.Common.{◌≡◌, ◌∙◌, ℕ, suc, List, [], ◌∷◌, refl, sym, Bool, Option, IsTrue}
+use Rattle.std.proofs.Common.{ℕ, suc, List, [], ◌∷◌, refl, Bool, Option}
 use Rattle.std.specs.List.{AllByRecursion}
 use Rattle.xt_spec.specs.Tag.{Attribute}
 use Rattle.xt_spec.specs.Tree.{Items, nil, element, leaf, text_item, reference_item, comment_item, pi_item, gap}

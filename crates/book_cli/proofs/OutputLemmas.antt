@@ -1,10 +1,10 @@
 -- Items give the same nodes, and words and files the same output.
-use Rattle.std.proofs.Common.{◌≡◌, ◌∙◌, ℕ, List, [], ◌∷◌, refl, sym, ap, subst, Option, Some, None}
+use Rattle.std.proofs.Common.{◌≡◌, ◌∙◌, ℕ, List, [], ◌∷◌, sym, ap, subst, Option, Some, None}
 use Rattle.xt_spec.specs.Tag.{Attribute, Tag}
 use Rattle.xt_spec.specs.Reading.{tag_ending}
 use Rattle.xt_spec.specs.Tree.{Items, nil, element, leaf, text_item, reference_item, comment_item, pi_item, gap}
 use Rattle.xt_spec.specs.Plain.{IsPlainDocument}
-use Rattle.bk_spec.specs.Node.{Attr, Head, Nodes, no_nodes, element_node, text_node, owned}
+use Rattle.bk_spec.specs.Node.{Attr, Head, Nodes, element_node, text_node, owned}
 use Rattle.bk_spec.specs.PlainNodes.{plain_attr, plain_head, GivesAttributes, GivesHead, GivesNodes}
 use Rattle.bk_spec.specs.Print.{print_tree}
 use Rattle.xt_lex.proofs.Theorems.{tag_unique}

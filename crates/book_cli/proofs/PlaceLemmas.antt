@@ -1,20 +1,19 @@
 -- What stands at the spans of a tag's parts.
-use Rattle.std.proofs.Common.{inl, inr, ◌≡◌, ◌∙◌, ℕ, ◌<◌, ◌≤◌, ◌+◌, ◌-◌, List, [], ◌∷◌, ◌++◌, map, take, drop, length, refl, sym, ap, subst, arith, append_assoc, length-append, Option, Some, None, codes, Bool, true, false, not, ◌==◌, ◌&&◌}
+use Rattle.std.proofs.Common.{inl, inr, ◌≡◌, ◌∙◌, ℕ, ◌+◌, ◌-◌, List, [], ◌∷◌, ◌++◌, map, take, drop, length, refl, sym, ap, subst, arith, append_assoc, length-append, Option, Some, None, codes, Bool, true, false, not, ◌==◌}
 use Rattle.std.proofs.lemmas.Bool.{and_parts}
-use Rattle.std.proofs.lemmas.List.{take-append-drop, take_all, append_cancel_left}
+use Rattle.std.proofs.lemmas.List.{take-append-drop}
 use Rattle.std.proofs.lemmas.List.Folds.{list_all-append}
 use Rattle.std.proofs.Math.Seq.{drop-drop}
-use Rattle.std.specs.List.{list_all, slice_range, concat}
-use Rattle.xt_spec.specs.Tag.{Attribute, attribute_text, Tag, IsTag, tag_text}
+use Rattle.std.specs.List.{slice_range, concat}
+use Rattle.xt_spec.specs.Tag.{Attribute, attribute_text, Tag, tag_text}
 use Rattle.xt_spec.specs.Reading.{tag_ending}
 use Rattle.bk_spec.specs.Node.{Attr, Head}
 use Rattle.bk_spec.specs.PlainNodes.{GivesAttributes, GivesHead, plain_head}
-use Rattle.xt_lex.specs.declared.token.Span.{Span}
 use Rattle.xt_lex.specs.declared.attribute.AttrSrc.{AttrSrc}
-use Rattle.xt_lex.specs.Place.{AreSpansOf, EndsTag}
+use Rattle.xt_lex.specs.Place.{EndsTag}
 use Rattle.xt_tree.specs.declared.source.Tag.{Tag as TagSrc}
 use Rattle.xt_tree.specs.Meaning.{at_span}
-use Rattle.xt_tree.specs.Places.{ending, IsTagAt, IsSpanAt, AreAttributesAt}
+use Rattle.xt_tree.specs.Places.{ending, IsTagAt, AreAttributesAt}
 use Rattle.book_cli.specs.ValueParts.{has_no_cr}
 use Rattle.book_cli.specs.Printing.{attribute_at}
 use Rattle.xt_lex.proofs.Theorems.{tag_unique}

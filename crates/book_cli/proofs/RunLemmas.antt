@@ -1,12 +1,11 @@
 -- What a file gives, from what was read of it.
-use Rattle.std.proofs.Common.{◌≡◌, ◌∙◌, ℕ, ◌<◌, ◌≤◌, List, [], length, refl, sym, subst, arith, true, false, Bool, Option, Some, None, nat_le, if◌then◌else◌}
+use Rattle.std.proofs.Common.{◌≡◌, ℕ, ◌≤◌, List, length, refl, sym, subst, arith, true, false, Bool, Option, Some, None, nat_le, if◌then◌else◌}
 use Rattle.std.proofs.lemmas.Bool.Decides.{nat_tests}
 use Rattle.xt_spec.specs.Tree.{Items}
 use Rattle.xt_spec.specs.Plain.{IsPlainDocument}
 use Rattle.bk_spec.specs.Node.{Nodes}
 use Rattle.bk_spec.specs.PlainNodes.{GivesNodes}
 use Rattle.bk_spec.specs.Print.{print_tree}
-use Rattle.bk_desk.specs.declared.desk.Got.{Got}
 use Rattle.bk_desk.specs.declared.desk.Got.TheVariants.{Absent, Bytes, Longer}
 use Rattle.bk_desk.specs.Disk.{got_of}
 use Rattle.book_cli.specs.Output.{FileOutput, missing, not_yet, opened, missing_line, not_yet_line, file_uri}

@@ -1,5 +1,5 @@
 -- The values of text items and attributes are those of texts that characters and references spell, where no CR is.
-use Rattle.std.proofs.Common.{◌≡◌, ◌≢◌, ◌∙◌, ℕ, ◌<◌, ◌≤◌, ◌-◌, ◌+◌, List, [], ◌∷◌, ◌++◌, map, take, drop, length, get_or, refl, sym, ap, subst, arith, true, false, Bool, not, ◌==◌, ◌&&◌, eqb, lit<, encode_utf8_all, length-append, IsTrue}
+use Rattle.std.proofs.Common.{◌≡◌, ◌≢◌, ◌∙◌, ℕ, ◌-◌, List, [], ◌∷◌, ◌++◌, map, take, drop, length, get_or, refl, sym, ap, arith, true, false, Bool, not, ◌==◌, ◌&&◌, eqb, lit<, length-append}
 use Rattle.std.proofs.lemmas.Bool.{and_parts}
 use Rattle.std.proofs.lemmas.Bool.Decides.{nat_tests}
 use Rattle.std.proofs.lemmas.List.{take_all, take-append-le}
@@ -14,8 +14,7 @@ use Rattle.xt_spec.specs.Name.{IsSpeltBy}
 use Rattle.xt_spec.specs.Token.{IsPlain, Spells, char_data}
 use Rattle.xt_spec.specs.Tag.{is_value_char}
 use Rattle.xt_spec.specs.Text.{TextPart, data_part, reference_part, parts_text, parts_value, AreTextParts, HasTextValue, lines_read}
-use Rattle.xt_spec.specs.Value.{AreValueParts, value_of_parts, HasAttributeValue, spaced}
-use Rattle.book_cli.specs.declared.value.Within.{Within}
+use Rattle.xt_spec.specs.Value.{AreValueParts, value_of_parts, HasAttributeValue}
 use Rattle.book_cli.specs.declared.value.Within.TheVariants.{Content, Value}
 use Rattle.book_cli.specs.ValueParts.{counted, has_no_cr, is_no_ampersand, AreParts, parts_counted, HasValue}
 

@@ -1,5 +1,5 @@
 -- How the lines of items follow each other.
-use Rattle.std.proofs.Common.{◌≡◌, ◌∙◌, ℕ, ◌+◌, List, [], ◌∷◌, ◌++◌, map, take, drop, length, refl, sym, ap, subst, arith, append_assoc, Option, Some, None, codes}
+use Rattle.std.proofs.Common.{◌≡◌, ◌∙◌, ℕ, List, [], ◌∷◌, ◌++◌, sym, ap, subst, append_assoc, Option, Some, None, codes}
 use Rattle.std.proofs.lemmas.List.{append-nil}
 use Rattle.xt_spec.specs.Tag.{Attribute}
 use Rattle.xt_spec.specs.Text.{HasTextValue}
@@ -7,8 +7,8 @@ use Rattle.xt_spec.specs.Value.{HasAttributeValue}
 use Rattle.xt_spec.specs.Tree.{Items, Item, nil, element, leaf, text_item, before}
 use Rattle.bk_spec.specs.Node.{Origin, Attr, Head, Nodes, owned, element_node, text_node}
 use Rattle.bk_spec.specs.PlainNodes.{GivesAttributes, GivesHead, GivesNodes, plain_attr, plain_head}
-use Rattle.bk_spec.specs.Print.{quoted_text, deeper, element_line, base_line, attribute_line, attribute_lines, text_line, print_nodes, print_tree}
-use Rattle.book_cli.specs.Printing.{escaped, IsIndent, parent_of, head_lines, PrintsItem, PrintsItems, PrintsAttributes, attribute_at}
+use Rattle.bk_spec.specs.Print.{deeper, element_line, base_line, attribute_line, attribute_lines, text_line, print_nodes, print_tree}
+use Rattle.book_cli.specs.Printing.{escaped, IsIndent, parent_of, head_lines, PrintsItem, PrintsItems, PrintsAttributes}
 
 -- one level more
 pub indent_deeper : (indent : List ℕ) → IsIndent indent → indent ++ codes "  " ≡ deeper indent

@@ -1,5 +1,5 @@
 -- A text item and an attribute have one value, and items give the same nodes.
-use Rattle.std.proofs.Common.{◌≡◌, ◌∙◌, ℕ, List, [], ◌∷◌, ◌++◌, map, refl, sym, ap, arith, true, false, Bool, not, ◌==◌, Option, Some, None, inl, inr, ◌⊎◌, append_assoc, encode_utf8, if◌then◌else◌}
+use Rattle.std.proofs.Common.{◌≡◌, ◌∙◌, ℕ, List, [], ◌∷◌, ◌++◌, map, refl, sym, ap, arith, true, false, Bool, ◌==◌, Some, None, inl, inr, ◌⊎◌, append_assoc, encode_utf8, if◌then◌else◌}
 use Rattle.std.proofs.lemmas.Bool.{and_parts}
 use Rattle.std.proofs.lemmas.Bool.Decides.{nat_tests}
 use Rattle.std.specs.List.{list_all}

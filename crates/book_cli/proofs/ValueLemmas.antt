@@ -1,5 +1,5 @@
 -- Values: what stands at the front of a text that characters and references spell, and how it prints.
-use Rattle.std.proofs.Common.{◌==◌, le_refl, min, not, Option, Some, None, length-append, ◌≡◌, ◌≢◌, ◌∙◌, ℕ, zero, suc, ◌<◌, ◌≤◌, ◌+◌, ◌-◌, List, [], ◌∷◌, ◌++◌, map, take, drop, length, get_or, refl, sym, ap, subst, arith, true, false, Bool, ◌&&◌, codes, inl, inr, ◌⊎◌, append_assoc, encode_utf8}
+use Rattle.std.proofs.Common.{◌==◌, le_refl, min, not, Option, Some, None, length-append, ◌≡◌, ◌∙◌, ℕ, zero, suc, ◌<◌, ◌≤◌, ◌+◌, ◌-◌, List, [], ◌∷◌, ◌++◌, map, take, drop, length, get_or, refl, sym, ap, subst, arith, true, false, Bool, codes, inl, inr, append_assoc, encode_utf8}
 use Rattle.std.proofs.lemmas.Bool.{and_parts}
 use Rattle.std.proofs.lemmas.List.Sums.{position_or_len_is}
 use Rattle.std.specs.List.{position_or_len}
@@ -7,10 +7,10 @@ use Rattle.std.specs.Option.{unwrap_or}
 use Rattle.memchr.specs.Find.{is_byte, IsFirstByte}
 use Rattle.std.proofs.lemmas.Bool.Decides.{nat_tests}
 use Rattle.std.proofs.lemmas.Grind.{flat_map-append}
-use Rattle.std.proofs.lemmas.List.{append-nil, take_all}
-use Rattle.std.proofs.lemmas.List.Folds.{flat_map-map, list_all-append}
+use Rattle.std.proofs.lemmas.List.{append-nil, take_all, length-drop, drop-drop}
+use Rattle.std.proofs.lemmas.List.Folds.{flat_map-map}
 use Rattle.std.specs.List.{list_all, flat_map, prefix_len}
-use Rattle.xt_spec.specs.Reference.{StandsFor, NamesChar, IsPredefined, AreDigits, is_decimal_digit, is_hexadecimal_digit}
+use Rattle.xt_spec.specs.Reference.{StandsFor, is_decimal_digit, is_hexadecimal_digit}
 use Rattle.xt_spec.specs.Text.{TextPart, data_part, reference_part, parts_text}
 use Rattle.bk_spec.specs.Print.{quoted_byte}
 use Rattle.book_cli.specs.declared.value.Within.{Within}
@@ -36,6 +36,22 @@ prefix_passes p (x ∷ xs) = prefix_case (p x) p x xs refl (prefix_passes p xs)
     prefix_case : (b : Bool) (p : ℕ → Bool) (x : ℕ) (xs : List ℕ) → b ≡ p x → list_all p (take (prefix_len p xs) xs) ≡ true → list_all p (take (prefix_len p (x ∷ xs)) (x ∷ xs)) ≡ true
     prefix_case true p x xs e ih = rw (← e) (let more : 1 + prefix_len p xs ≡ suc (prefix_len p xs) = omega arith in rw more (rw (← e) ih))
     prefix_case false p x xs e ih = rw (← e) refl
+
+all_pass : (p : ℕ → Bool) (k : ℕ) (xs : List ℕ) → k ≤ length xs → list_all p (take k xs) ≡ true → prefix_len p xs ≡ k + prefix_len p (drop k xs)
+all_pass p zero xs within all = omega arith
+all_pass p (suc k) [] within all = absurd (omega arith)
+all_pass p (suc k) (x ∷ xs) within all =
+    let both = and_parts (p x) (list_all p (take k xs)) all in
+    rw both.0 (omega (arith, all_pass p k xs (omega arith) both.1))
+
+-- where a block passes, as many more bytes do
+pub block_passes : (p : ℕ → Bool) (len k : ℕ) (xs : List ℕ) → len + k ≤ length xs → list_all p (take k (drop len xs)) ≡ true → prefix_len p xs ≡ len + prefix_len p (drop len xs)
+    → prefix_len p xs ≡ len + k + prefix_len p (drop (len + k) xs)
+block_passes p len k xs within all before =
+    let fits : k ≤ length (drop len xs) = omega (arith, length-drop len xs) in
+    let more = all_pass p k (drop len xs) fits all in
+    let at : drop k (drop len xs) ≡ drop (len + k) xs = drop-drop k len xs in
+    omega (arith, before, more, ap (prefix_len p) at)
 
 -- a run of unescaped bytes is added as it is
 pub run_prints : (within : Within) (old run rest : List ℕ) → list_all is_unescaped run ≡ true → old ++ flat_map (written within) (run ++ rest) ≡ (old ++ run) ++ flat_map (written within) rest

@@ -5,3 +5,4 @@ pub mod Output
 pub mod Printing
 pub mod Silent
 pub mod Effects
+pub mod RealFiles

@@ -9,7 +9,7 @@ use Rattle.std.specs.List.{flat_map}
 use Rattle.xt_spec.specs.Tag.{Attribute}
 use Rattle.xt_spec.specs.Tree.{Items, Item, before}
 use Rattle.bk_spec.specs.Node.{Attr, Head, Nodes}
-use Rattle.bk_spec.specs.PlainNodes.{GivesAttributes, GivesHead, GivesNodes}
+use Rattle.bk_spec.specs.PlainNodes.{GivesAttributes, GivesNodes}
 use Rattle.bk_spec.specs.Print.{quoted_byte, deeper, element_line, base_line, attribute_lines, print_nodes}
 use Rattle.xt_lex.specs.declared.attribute.AttrSrc.{AttrSrc}
 use Rattle.xt_tree.specs.Meaning.{at_span}

@@ -1,5 +1,5 @@
 -- What a desk over real files tells of them: nothing.
-use Rattle.std.specs.Prelude.{ℕ, List, [], Bool, true, false, Option, None, IsTrue}
+use Rattle.std.specs.Prelude.{ℕ, [], false, None, IsTrue}
 use mathlib.Core.Path.{sym}
 use mathlib.Core.Bool.{true≢false}
 use Rattle.bk_desk.specs.Disk.{DiskState, CrashState}

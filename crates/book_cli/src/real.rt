@@ -1,15 +1,22 @@
 //! The current folder and an output.
-ghost use Rattle.std.specs.Prelude.{◌≡◌, ◌≤◌, ◌+◌, length, IfOk, IsErrOf};
+ghost use Rattle.std.specs.Prelude.{◌≡◌, ◌≢◌, ◌⊎◌, ◌↔◌, ◌++◌, ◌<◌, [], ◌∷◌, length, map, true, false, IsTrue, IfOk, OnOk, OnErr, IsErrOf};
+ghost use Rattle.std.specs.IoError.{error_kind};
+ghost use Rattle.std.specs.Io.KnownBytes.{Appends};
 ghost use Rattle.bk_desk.specs.Cause.{Rose, HasCause};
+ghost use Rattle.bk_desk.specs.Disk.{FitsCap};
+ghost use Rattle.book_cli.specs.RealFiles.{path_of, folder_at, synced_with, paths_to_sync, IsFrontOf};
 
 use bk_desk::{Desk, DeskErr, DeskName, Got};
-use std::alloc::Global;
+use std::alloc::{AllocError, Global};
 use std::fs::{self, File, Files, OpenFile};
 use std::io::{self, ErrorKind, Read, Write};
 use xt_table::Seq;
 
-/// How many bytes are asked of a file at once.
-const CHUNK: usize = 65_536;
+/// The path of the journal, from the folder.
+const JOURNAL: &str = ".burst-journal";
+
+/// The path of the commit marker, from the folder.
+const GATE: &str = ".burst-gate";
 
 /// Files under the current folder, and an output. It tells nothing of what they hold.
 ///
@@ -29,71 +36,42 @@ pub(crate) struct RealDesk<R: Files + Drop, W: Write + Drop> {
 }
 
 /// The path of a file, from the folder.
-fn path_of(name: &DeskName) -> &str {
+fn path_of(name: &DeskName) -> &str
+    ensures value { result.now ≡ path_of name.now }
+{
     match name {
         DeskName::Book(name) => name.as_str(),
-        DeskName::Journal => ".burst-journal",
-        DeskName::Gate => ".burst-gate",
+        DeskName::Journal => JOURNAL,
+        DeskName::Gate => GATE,
     }
 }
 
 /// Whether there is no such file: nothing of this name, a folder, or a name below a file.
-fn is_absence(error: &io::Error) -> bool {
+fn is_absence(error: &io::Error) -> bool
+    ensures exact { IsTrue result ↔ (error_kind error.now ≡ ErrorKind.NotFound) ⊎ ((error_kind error.now ≡ ErrorKind.NotADirectory) ⊎ (error_kind error.now ≡ ErrorKind.IsADirectory)) }
+{
     matches!(
         error.kind(),
         ErrorKind::NotFound | ErrorKind::NotADirectory | ErrorKind::IsADirectory
     )
 }
 
-/// Some bytes of a file, or none at its end.
-fn read_some<F: Read>(file: &mut F, buffer: &mut [u8]) -> io::Result<usize>
-    ensures fits { IfOk result (λ count. count ≤ length buffer.new) }
-{
-    for _ in 0..u64::MAX {
-        match file.read(buffer) {
-            Ok(count) => return Ok(count),
-            Err(error) => {
-                if error.kind() != ErrorKind::Interrupted {
-                    return Err(error);
-                }
-            }
-        }
-    }
-    Err(io::Error::from(ErrorKind::Interrupted))
-}
-
 /// The bytes of a file, up to this many.
-fn read_up_to<F: Read>(alloc: Global, file: &mut F, most: usize) -> io::Result<Vec<u8>> {
+fn read_up_to<F: Read + Drop>(alloc: Global, file: F, most: usize) -> io::Result<Vec<u8>>
+    ensures value { IfOk result (λ bytes. IsFrontOf (F.remaining file) most bytes.items) }
+{
     let mut bytes = Vec::new(alloc);
-    let mut chunk = vec![in alloc; 0; CHUNK]?;
-    while bytes.len() < most {
-        let room = (most - bytes.len()).min(CHUNK);
-        let count = read_some(file, &mut chunk[..room])?;
-        if count == 0 {
-            break;
-        }
-        bytes.extend_from_slice(&chunk[..count])?;
-    }
+    let mut front = file.take(most as u64);
+    front.read_to_end(&mut bytes)?;
     Ok(bytes)
 }
 
-/// Writes some of the bytes.
-fn write_some<W: Write>(out: &mut W, bytes: &[u8]) -> io::Result<usize>
-    ensures fits { IfOk result (λ count. count ≤ length bytes.now) }
-    ensures some { IfOk result (λ count. 1 ≤ count) }
+/// Writes all the bytes, and flushes them.
+fn write_whole<W: Write>(out: &mut W, bytes: &[u8]) -> io::Result<()>
+    ensures value { OnOk result (Appends (W.contents out.old) (W.contents out.new) bytes.now) }
 {
-    for _ in 0..u64::MAX {
-        match out.write(bytes) {
-            Ok(0) => return Err(io::Error::from(ErrorKind::WriteZero)),
-            Ok(count) => return Ok(count),
-            Err(error) => {
-                if error.kind() != ErrorKind::Interrupted {
-                    return Err(error);
-                }
-            }
-        }
-    }
-    Err(io::Error::from(ErrorKind::Interrupted))
+    out.write_all(bytes)?;
+    out.flush()
 }
 
 /// Makes a file or a folder durable, where it is there.
@@ -109,31 +87,43 @@ fn sync_one<R: Files>(files: &R, path: &str) -> io::Result<()> {
     }
 }
 
-/// Makes a file durable, and each folder from its own up to the current one.
-fn sync_path<R: Files>(files: &R, path: &str) -> io::Result<()> {
-    sync_one(files, path)?;
-    for at in 0..path.len() {
-        if path.as_bytes()[at] == b'/'
-            && let Some(folder) = path.get(..at)
-        {
-            sync_one(files, folder)?;
-        }
+/// Adds the folder that ends before a place of a path, where a `/` stands there.
+fn add_folder<'a>(paths: &mut Vec<&'a str>, path: &'a str, at: usize) -> Result<(), AllocError>
+    requires within { at < length path.now }
+    ensures value { OnOk result (map (λ p. p.now) paths.new.items ≡ map (λ p. p.now) paths.old.items ++ folder_at path.now at) }
+{
+    if path.as_bytes()[at] == b'/' {
+        paths.push(&path[..at])?;
     }
-    sync_one(files, ".")
+    Ok(())
 }
 
-/// Writes all the bytes, and flushes them.
-fn write_whole<W: Write>(out: &mut W, bytes: &[u8]) -> io::Result<()> {
-    let mut rest = bytes;
-    while !rest.is_empty() {
-        let count = write_some(out, rest)?;
-        rest = &rest[count..];
+/// Adds a path, and each folder from its own up to the current one.
+fn add_path<'a>(paths: &mut Vec<&'a str>, path: &'a str) -> Result<(), AllocError>
+    ensures value { OnOk result (map (λ p. p.now) paths.new.items ≡ map (λ p. p.now) paths.old.items ++ synced_with path.now) }
+{
+    paths.push(path)?;
+    for at in 0..path.len() {
+        add_folder(paths, path, at)?;
     }
-    out.flush()
+    paths.push(".")?;
+    Ok(())
+}
+
+/// Makes each file and folder durable, once where its path is there more often.
+fn sync_each<R: Files>(files: &R, mut paths: Vec<&str>) -> io::Result<()> {
+    paths.sort_unstable();
+    paths.dedup();
+    for path in &paths {
+        sync_one(files, path)?;
+    }
+    Ok(())
 }
 
 impl<R: Files + Drop, W: Write + Drop> RealDesk<R, W> {
-    pub(crate) fn new(files: R, out: W, alloc: Global) -> Self {
+    pub(crate) fn new(files: R, out: W, alloc: Global) -> Self
+        ensures value { (result.unsynced.items ≡ []) × (result.has_synced ≡ false) }
+    {
         RealDesk {
             files,
             out,
@@ -149,6 +139,10 @@ impl<R: Files + Drop, W: Write + Drop> RealDesk<R, W> {
     fn counted(&mut self, error: io::Error) -> DeskErr
         ensures cause_desk { HasCause self.old.faults self.new.faults (result ≡ DeskErr.Failed) }
         ensures cause_memory { HasCause self.old.refused self.new.refused (result ≡ DeskErr.NoMemory) }
+        ensures none { error_kind error ≡ ErrorKind.OutOfMemory → result ≡ DeskErr.NoMemory }
+        ensures fault { error_kind error ≢ ErrorKind.OutOfMemory → result ≡ DeskErr.Failed }
+        ensures others { (self.new.unsynced ≡ self.old.unsynced) × (self.new.has_synced ≡ self.old.has_synced) }
+        ensures same { self.new.out ≡ self.old.out }
     {
         if error.kind() == ErrorKind::OutOfMemory {
             self.refused = self.refused.saturating_add(1);
@@ -159,6 +153,8 @@ impl<R: Files + Drop, W: Write + Drop> RealDesk<R, W> {
     }
 
     fn put(&mut self, name: &DeskName, bytes: &[u8]) -> io::Result<()>
+        ensures value { OnOk result (self.new.unsynced.items ≡ self.old.unsynced.items ++ name.now ∷ []) }
+        ensures others { (self.new.has_synced ≡ self.old.has_synced) × (self.new.out ≡ self.old.out) }
         ensures same { (self.new.faults ≡ self.old.faults) × (self.new.refused ≡ self.old.refused) }
     {
         self.unsynced.push(name.share()?)?;
@@ -172,6 +168,8 @@ impl<R: Files + Drop, W: Write + Drop> RealDesk<R, W> {
 
     /// A removal of what isn't there is no fault, and changes nothing.
     fn take(&mut self, name: &DeskName) -> io::Result<()>
+        ensures value { OnOk result (self.new.unsynced.items ≡ self.old.unsynced.items ++ name.now ∷ []) }
+        ensures others { (self.new.has_synced ≡ self.old.has_synced) × (self.new.out ≡ self.old.out) }
         ensures same { (self.new.faults ≡ self.old.faults) × (self.new.refused ≡ self.old.refused) }
     {
         self.unsynced.push(name.share()?)?;
@@ -186,24 +184,35 @@ impl<R: Files + Drop, W: Write + Drop> RealDesk<R, W> {
         }
     }
 
-    fn sync_all(&mut self) -> io::Result<()>
-        ensures same { (self.new.faults ≡ self.old.faults) × (self.new.refused ≡ self.old.refused) }
+    /// The paths of what is to be made durable, with each folder above.
+    fn paths(&self) -> Result<Vec<&str>, AllocError>
+        ensures value { IfOk result (λ paths. map (λ p. p.now) paths.items ≡ paths_to_sync self.now.has_synced self.now.unsynced.items) }
     {
+        let mut paths = Vec::new(self.alloc);
         if !self.has_synced {
-            sync_path(&self.files, path_of(&DeskName::Journal))?;
-            sync_path(&self.files, path_of(&DeskName::Gate))?;
+            add_path(&mut paths, JOURNAL)?;
+            add_path(&mut paths, GATE)?;
         }
         for name in &self.unsynced {
-            sync_path(&self.files, path_of(name))?;
+            add_path(&mut paths, path_of(name))?;
         }
+        Ok(paths)
+    }
+
+    fn sync_all(&mut self) -> io::Result<()>
+        ensures value { OnOk result ((self.new.unsynced.items ≡ []) × (self.new.has_synced ≡ true)) }
+        ensures others { OnErr result ((self.new.unsynced ≡ self.old.unsynced) × (self.new.has_synced ≡ self.old.has_synced)) }
+        ensures same { (self.new.faults ≡ self.old.faults) × (self.new.refused ≡ self.old.refused) }
+    {
+        sync_each(&self.files, self.paths()?)?;
         self.unsynced.clear();
         self.has_synced = true;
         Ok(())
     }
 
     fn bytes_of(&self, name: &DeskName, most: usize) -> io::Result<Vec<u8>> {
-        let mut file = File::open(&self.files, path_of(name))?;
-        read_up_to(self.alloc, &mut file, most)
+        let file = File::open(&self.files, path_of(name))?;
+        read_up_to(self.alloc, file, most)
     }
 }
 
@@ -227,7 +236,13 @@ impl<R: Files + Drop, W: Write + Drop> Desk for RealDesk<R, W> {
 
     ghost only_now = { λ d crash h was. silent h };
 
-    fn read(&mut self, name: &DeskName, cap: usize) -> Result<Got, DeskErr> {
+    fn read(&mut self, name: &DeskName, cap: usize) -> Result<Got, DeskErr>
+        ensures fits { IfOk result (FitsCap cap) }
+        ensures others { (self.new.unsynced ≡ self.old.unsynced) × (self.new.has_synced ≡ self.old.has_synced) }
+        ensures same { self.new.out ≡ self.old.out }
+        ensures cause_desk { HasCause self.old.faults self.new.faults (IsErrOf result DeskErr.Failed) }
+        ensures cause_memory { HasCause self.old.refused self.new.refused (IsErrOf result DeskErr.NoMemory) }
+    {
         match self.bytes_of(name, cap.saturating_add(1)) {
             Ok(bytes) => {
                 if bytes.len() > cap {
@@ -244,28 +259,48 @@ impl<R: Files + Drop, W: Write + Drop> Desk for RealDesk<R, W> {
         }
     }
 
-    fn write_file(&mut self, name: &DeskName, bytes: &[u8]) -> Result<(), DeskErr> {
+    fn write_file(&mut self, name: &DeskName, bytes: &[u8]) -> Result<(), DeskErr>
+        ensures value { OnOk result (self.new.unsynced.items ≡ self.old.unsynced.items ++ name.now ∷ []) }
+        ensures others { (self.new.has_synced ≡ self.old.has_synced) × (self.new.out ≡ self.old.out) }
+        ensures cause_desk { HasCause self.old.faults self.new.faults (IsErrOf result DeskErr.Failed) }
+        ensures cause_memory { HasCause self.old.refused self.new.refused (IsErrOf result DeskErr.NoMemory) }
+    {
         match self.put(name, bytes) {
             Ok(()) => Ok(()),
             Err(error) => Err(self.counted(error)),
         }
     }
 
-    fn remove(&mut self, name: &DeskName) -> Result<(), DeskErr> {
+    fn remove(&mut self, name: &DeskName) -> Result<(), DeskErr>
+        ensures value { OnOk result (self.new.unsynced.items ≡ self.old.unsynced.items ++ name.now ∷ []) }
+        ensures others { (self.new.has_synced ≡ self.old.has_synced) × (self.new.out ≡ self.old.out) }
+        ensures cause_desk { HasCause self.old.faults self.new.faults (IsErrOf result DeskErr.Failed) }
+        ensures cause_memory { HasCause self.old.refused self.new.refused (IsErrOf result DeskErr.NoMemory) }
+    {
         match self.take(name) {
             Ok(()) => Ok(()),
             Err(error) => Err(self.counted(error)),
         }
     }
 
-    fn sync(&mut self) -> Result<(), DeskErr> {
+    fn sync(&mut self) -> Result<(), DeskErr>
+        ensures durable { OnOk result ((self.new.unsynced.items ≡ []) × (self.new.has_synced ≡ true)) }
+        ensures same { OnErr result ((self.new.unsynced ≡ self.old.unsynced) × (self.new.has_synced ≡ self.old.has_synced)) }
+        ensures cause_desk { HasCause self.old.faults self.new.faults (IsErrOf result DeskErr.Failed) }
+        ensures cause_memory { HasCause self.old.refused self.new.refused (IsErrOf result DeskErr.NoMemory) }
+    {
         match self.sync_all() {
             Ok(()) => Ok(()),
             Err(error) => Err(self.counted(error)),
         }
     }
 
-    fn tell(&mut self, bytes: &[u8]) -> Result<(), DeskErr> {
+    fn tell(&mut self, bytes: &[u8]) -> Result<(), DeskErr>
+        ensures output { OnOk result (Appends (W.contents self.old.out) (W.contents self.new.out) bytes.now) }
+        ensures others { (self.new.unsynced ≡ self.old.unsynced) × (self.new.has_synced ≡ self.old.has_synced) }
+        ensures cause_desk { HasCause self.old.faults self.new.faults (IsErrOf result DeskErr.Failed) }
+        ensures cause_memory { HasCause self.old.refused self.new.refused (IsErrOf result DeskErr.NoMemory) }
+    {
         match write_whole(&mut self.out, bytes) {
             Ok(()) => Ok(()),
             Err(error) => Err(self.counted(error)),

@@ -13,6 +13,9 @@ use memchr::memchr;
 use std::alloc::AllocError;
 use xt_lex::referenced_char;
 
+/// How many bytes are tested at a time.
+const BLOCK: usize = 16;
+
 /// Where characters stand.
 #[derive(Clone, Copy, Debug, PartialEq, Eq)]
 pub enum Within {
@@ -32,7 +35,26 @@ pub(crate) fn put(out: &mut Vec<u8>, bytes: &[u8]) -> Result<(), AllocError>
 fn is_unescaped(b: u8) -> bool
     ensures value { result ≡ is_unescaped b }
 {
-    !matches!(b, b'"' | b'\\' | b'\n' | b'\t' | b'\r')
+    (b != b'"') & (b != b'\\') & (b != b'\n') & (b != b'\t') & (b != b'\r')
+}
+
+/// Whether each byte prints as itself. It has no early end, so that many bytes are tested at a time.
+fn are_unescaped(bytes: &[u8]) -> bool
+    ensures value { result ≡ list_all is_unescaped bytes.now }
+{
+    let mut plain = true;
+    for b in bytes {
+        plain &= is_unescaped(*b);
+    }
+    plain
+}
+
+/// How many bytes at the front print as themselves, one by one.
+fn few_unescaped_len(bytes: &[u8]) -> usize
+    ensures value { result ≡ prefix_len is_unescaped bytes.now }
+    ensures fits { result ≤ length bytes.now }
+{
+    bytes.iter().take_while(|b| is_unescaped(**b)).count()
 }
 
 /// How many bytes at the front print as themselves.
@@ -40,7 +62,11 @@ fn unescaped_len(bytes: &[u8]) -> usize
     ensures value { result ≡ prefix_len is_unescaped bytes.now }
     ensures fits { result ≤ length bytes.now }
 {
-    bytes.iter().take_while(|b| is_unescaped(**b)).count()
+    let mut len = 0;
+    while bytes.len() - len >= BLOCK && are_unescaped(&bytes[len..len + BLOCK]) {
+        len += BLOCK;
+    }
+    len + few_unescaped_len(&bytes[len..])
 }
 
 /// The bytes cut before the first one to be escaped.

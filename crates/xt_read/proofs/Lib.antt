@@ -1,5 +1,6 @@
 mod NameLemmas
 mod Marks
+mod Searches
 mod Tokens
 mod Runs
 mod ItemLemmas

@@ -13,6 +13,7 @@ use crate::items::read_items;
 use crate::nodes::nodes_left;
 use crate::plain::are_plain;
 use crate::unread::Unread;
+use memchr::memchr;
 use sqlite_items::Items;
 use std::alloc::Global;
 use std::sync::ledger::Ledger;
@@ -44,7 +45,7 @@ fn has_mark(bytes: &[u8]) -> bool
 fn lacks_cr(bytes: &[u8]) -> bool
     ensures { result ≡ list_all (λ b. not (b == 0xD)) bytes.now }
 {
-    bytes.iter().all(|b| *b != b'\r')
+    memchr(b'\r', bytes).is_none()
 }
 
 /// The items of a text that is a document of plain items, not too many.

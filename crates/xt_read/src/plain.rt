@@ -1,8 +1,6 @@
 //! Whether the items of a document are plain: what is opened so far.
 
-ghost use Rattle.std.specs.Prelude.{◌≡◌, ◌<◌, ◌≤◌, ◌+◌, ◌^◌, ◌↔◌, ℕ, List, IsTrue, length, not, ◌==◌, ◌&&◌, bytes_eq, codes, MatchOption, Option};
-ghost use Rattle.xt_lex.specs.declared.token.Span.{Span};
-ghost use Rattle.xt_tree.specs.declared.source.Src.TheVariants as source;
+ghost use Rattle.std.specs.Prelude.{◌≡◌, ◌<◌, ◌≤◌, ◌+◌, ◌^◌, ◌↔◌, ℕ, List, IsTrue, length, not, ◌==◌, ◌&&◌, bytes_eq, codes, MatchOption};
 ghost use Rattle.std.specs.List.{list_all, prefix_len, AllByRecursion};
 ghost use Rattle.xt_lex.specs.Scan.{run, behind};
 ghost use Rattle.xt_spec.specs.Plain as spec;
@@ -14,6 +12,7 @@ ghost use Rattle.xt_tree.specs.Meaning.{at_span, item_of, items_in};
 ghost use Rattle.xt_tree.specs.Places.{IsTagAt, marks_in, marks_of};
 
 use crate::bytes::{bytes_at, is_same};
+use memchr::memchr;
 use xt_lex::{AttrSrc, Span, referenced_char};
 use xt_tree::{Src, Tag};
 
@@ -40,7 +39,7 @@ fn is_plain_name(name: &[u8]) -> bool
 fn len_before(byte: u8, bytes: &[u8]) -> usize
     ensures { result ≡ prefix_len (is_other byte) bytes.now }
 {
-    bytes.iter().take_while(|b| **b != byte).count()
+    memchr(byte, bytes).unwrap_or(bytes.len())
 }
 
 /// The text before the first such byte, an ASCII one, and from it on.
@@ -164,7 +163,6 @@ fn is_plain_item(item: &Src, text: &str) -> bool
         Src::Elem { head, kids, .. } => {
             let tag = is_plain_tag(text, head);
             let items = kids.as_slice();
-            knows_kids(item, head, items, text);
             let inner = are_plain(items, text);
             tag && inner
         }
@@ -175,12 +173,3 @@ fn is_plain_item(item: &Src, text: &str) -> bool
         Src::Pi(_) => false,
     }
 }
-
-/// Does nothing: its clauses say of an element's children what is known of the element, as the recursion asks for it.
-fn knows_kids(_item: &Src, _head: &Tag, _kids: &[Src], _text: &str)
-    requires is { (tail : Option Span) × (_item.now ≡ source.Elem _head.now _kids.now tail) }
-    requires place { ArePlaced _text.now (marks_in _item.now) }
-    requires tags { HaveTags (before (item_of _text.now _item.now) nil) }
-    ensures place { ArePlaced _text.now (marks_of _kids.now) }
-    ensures tags { HaveTags (items_in _text.now _kids.now) }
-{}

@@ -19,6 +19,9 @@ use xt_tree::{Src, Tag};
 /// How many elements may be open.
 const MOST_LEVELS: usize = 128;
 
+/// How many items an element has room for at first.
+const USUAL_KIDS: usize = 2;
+
 /// An element that is open, with the items before it.
 #[derive(Debug, Drop)]
 pub(crate) struct Frame {
@@ -103,7 +106,8 @@ impl Reader {
             return Err(Unread::NotPlain);
         }
         self.settle()?;
-        let before = mem::replace(&mut self.items, Items::new(alloc));
+        let kids = Items::from_vec(Vec::with_capacity(alloc, USUAL_KIDS)?);
+        let before = mem::replace(&mut self.items, kids);
         self.opened.push(Frame { head, before })?;
         self.came = true;
         Ok(())

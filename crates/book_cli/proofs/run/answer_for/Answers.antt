@@ -1,6 +1,6 @@
-use Rattle.std.proofs.Common.{◌≡◌, ◌∙◌, sym}
+use Rattle.std.proofs.Common.{◌∙◌, sym}
 use Rattle.std.proofs.lemmas.Result.{IfOk-weaker}
-use Rattle.book_cli.proofs.RunLemmas.{absent_output, longer_output, bytes_output}
+use Rattle.book_cli.proofs.RunLemmas.{longer_output, bytes_output}
 use Rattle.book_cli.proofs.run.answer_for.Goals as goal
 
 pub returns-in-Longer-clause-value : goal.returns-in-Longer-clause-value

@@ -1,4 +1,4 @@
-use Rattle.std.proofs.Common.{◌≡◌, ◌∙◌, List, ℕ, subst}
+use Rattle.std.proofs.Common.{◌∙◌, List, ℕ, subst}
 use Rattle.bk_desk.specs.declared.desk_name.DeskName.TheVariants.{Book}
 use Rattle.book_cli.specs.Output.{FileOutput}
 use Rattle.book_cli.proofs.run.answer_of_root.Goals as goal

@@ -1,4 +1,4 @@
-use Rattle.std.proofs.Common.{◌≡◌, refl}
+use Rattle.std.proofs.Common.{refl}
 use Rattle.std.proofs.lemmas.Result.{IfOk-weaker}
 use Rattle.book_cli.specs.Output.{not_yet}
 use Rattle.book_cli.proofs.run.opened.Goals as goal

@@ -1,4 +1,4 @@
-use Rattle.std.proofs.Common.{◌≡◌, ◌∙◌, sym}
+use Rattle.std.proofs.Common.{◌∙◌, sym}
 use Rattle.memchr.specs.Find.{is_byte}
 use Rattle.book_cli.proofs.ValueLemmas.{first_place}
 use Rattle.book_cli.proofs.value.place_of.Goals as goal

@@ -1,4 +1,3 @@
-use Rattle.std.proofs.Common.{◌≡◌, refl}
 use Rattle.book_cli.proofs.ValueLemmas.{run_prints, run_and_byte, first_and_others}
 use Rattle.book_cli.proofs.value.put_run.Goals as goal
 

@@ -1,4 +1,4 @@
-use Rattle.std.proofs.Common.{◌≡◌, ◌∙◌, sym}
+use Rattle.std.proofs.Common.{◌∙◌, sym}
 use Rattle.book_cli.proofs.ValueLemmas.{value_then, value_whole}
 use Rattle.book_cli.proofs.value.put_value.Goals as goal
 

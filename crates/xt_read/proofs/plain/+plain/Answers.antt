@@ -3,7 +3,7 @@ use Rattle.xt_tree.specs.Meaning.{items_in, item_of}
 use Rattle.xt_spec.specs.Tree.{before, nil}
 use Rattle.xt_spec.specs.Plain.{IsPlainItems}
 use Rattle.xt_read.proofs.PlainTags.{first_true}
-use Rattle.xt_read.proofs.PlainItems.{first_item, items_more, items_fail, element_placed, kids_fewer, item_fewer, element_plain}
+use Rattle.xt_read.proofs.PlainItems.{first_item, items_more, items_fail, element_placed, element_tags, kids_placed, kids_fewer, item_fewer, element_plain}
 use Rattle.xt_read.proofs.plain.+plain.Goals as goal
 
 pub are_plain-is_plain_item-requires : goal.are_plain-is_plain_item-requires
@@ -27,7 +27,9 @@ pub is_plain_item-are_plain-inner-requires : goal.is_plain_item-are_plain-inner-
 is_plain_item-are_plain-inner-requires t c =
     let size = c.requires.1.0 in
     let fewer = kids_fewer c.args.item.now c.in-Elem.head c.in-Elem.kids c.as_slice-items.result.now c.in-Elem.tail c.in-Elem.is c.as_slice-items.ensures in
-    (omega (arith, fewer, size), (c.knows_kids.ensures.place, c.knows_kids.ensures.tags))
+    let placed = kids_placed c.args.text.now c.args.item.now c.in-Elem.head c.in-Elem.kids c.as_slice-items.result.now c.in-Elem.tail c.in-Elem.is c.as_slice-items.ensures c.requires.1.1.0 in
+    let tags = element_tags c.args.text.now c.args.item.now c.in-Elem.head c.in-Elem.kids c.as_slice-items.result.now c.in-Elem.tail c.in-Elem.is c.as_slice-items.ensures c.requires.1.1.1 in
+    (omega (arith, fewer, size), (placed, tags))
 
 pub is_plain_item-returns-then-tag : goal.is_plain_item-returns-then-tag
 is_plain_item-returns-then-tag t c =
