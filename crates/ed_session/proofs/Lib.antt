@@ -3,3 +3,4 @@ pub mod RangeLemmas
 pub mod LeadLemmas
 pub mod EditLemmas
 pub mod BurstLemmas
+pub mod Examples

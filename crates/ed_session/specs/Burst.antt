@@ -1,6 +1,8 @@
--- What a save of the root writes, and what a crash in it may leave.
+-- What a save of the root writes, and what a crash in it may leave; of this project, over the disk of `bk_desk` and the
+-- commit of `jr_burst`.
 --
 --   item_of          the root as an item of a journal
+--   IsCount          how many files differ from what was saved: 0 or 1
 --   IsSaved          the session afterwards, and how many files were written
 --   IsBurst          the disk afterwards
 --   MayCrashInBurst  a crash at any point of the call

@@ -1,11 +1,15 @@
--- What an edit of a session makes, and why it is refused.
+-- What an edit of a session makes, and why it is refused; of this project. Which test refuses an edit, and what an accepted
+-- one makes, is said by `ed_spec` (`Edit`); ranges count characters from 0, and lengths are in bytes.
 --
---   edit_of      the edit that an operation of a script asks for
---   refusal_of   the refusal that a variant of the code is
---   IsNoText     why a place has no text to edit
---   IsNoValue    why a range of a text does not give way to another text
---   IsRefusal    why an edit is refused
---   IsEdited     the session afterwards
+--   edit_of       the edit that an operation of a script asks for
+--   refusal_of    the refusal that a variant of the code is
+--   IsNoTextAt    why a path, and IsNoText why a place, has no text to edit
+--   IsNoValue     why a range of a text does not give way to another text
+--   IsTooLarge    why a file of these bytes is not made
+--   IsNewText     the text at a place has this path, and with the edit this value
+--   IsRefusal     why an edit of items, and IsRefusedIn why one of bytes, is refused
+--   IsEditOf      the bytes of the root with the edit
+--   IsEdited      the session afterwards
 use Rattle.std.specs.Prelude.{◌≡◌, ◌⊎◌, ◌<◌, ◌≤◌, ℕ, List, length, true, false, Some, None}
 use Rattle.std.specs.List.{list_all}
 use Rattle.std.specs.Str.{chars}

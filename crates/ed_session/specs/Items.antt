@@ -1,8 +1,11 @@
--- A syntax item by itself: whether it gives a node, and what it holds. How many items stand side by side.
+-- A syntax item by itself: whether it gives a node, and what it holds. How many items stand side by side. Of this project,
+-- over the trees of `xt_spec`.
 --
 --   gives_node_item  whether the item gives a node
 --   content          what it holds
---   IsNarrow         no more items than so many stand side by side
+--   item_count       how many items stand side by side
+--   AreNarrowWithin  no more than so many in each element among the items
+--   IsNarrow         .. and among the items themselves
 use Rattle.std.specs.Prelude.{ℕ, ◌≤◌, suc, Bool, true}
 use Rattle.xt_spec.specs.Tree.{Item, element_item, leaf_item, Items, nil, element, leaf}
 use Rattle.ed_spec.specs.Place as place

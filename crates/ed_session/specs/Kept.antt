@@ -1,7 +1,9 @@
--- What a session keeps of its root, as contracts see it.
+-- What a session keeps of its root, as contracts see it; of this project.
 --
---   Kept    the root's name, its bytes as edited, and as last saved
---   IsOpen  the bytes are a plain document, whose items stand in their places
+--   Kept      the root's name, its bytes as edited, and as last saved
+--   saved_of  the bytes last saved, of what the code keeps of them
+--   kept      what contracts see of what the code keeps
+--   IsOpen    the bytes are a plain document, whose items stand in their places
 use Rattle.std.specs.Prelude.{ℕ, ◌≤◌, List, length, Option, Some, None, Vec}
 use Rattle.std.specs.Global.{Global}
 use Rattle.xt_spec.specs.Plain.{IsPlainDocument}

@@ -1,4 +1,6 @@
--- A text cut behind so many characters.
+-- A text cut behind so many characters; of this project.
+--
+--   IsCut  the rest is what follows so many characters
 use Rattle.std.specs.Prelude.{◌≡◌, ◌≤◌, ℕ, List, ◌++◌, length, take, drop}
 use Rattle.std.specs.Str.{chars, IsUtf8}
 

@@ -1,8 +1,13 @@
--- How a session begins, and why it doesn't.
+-- How a session begins, and why it doesn't; of this project, over the recovery of `jr_burst`.
 --
---   IsStarted   the book was recovered, and the session is over its root
---   FailsBy     why there is no session
---   file_steps  how many steps it takes to read a file
+--   start_of_recover, start_of_desk  the fault that one of a recovery, or of the desk, is
+--   IsOver                           the session is over a root of these bytes
+--   IsStarted                        the book was recovered, and the session is over its root
+--   IsNoDocument                     a file is there, and is no plain document
+--   IsAbsent, IsNotPlain             the book was recovered, and its root is not there, or is no plain document
+--   FailsBy                          why there is no session
+--   size_of_got, file_steps          how many steps it takes to read a file: one a byte
+--   HasRead                          the call did not end before the root was read
 use Rattle.std.specs.Prelude.{◌≡◌, ℕ, List, length, nat_le, if◌then◌else◌, Option, Some, None, Result, Ok, Err}
 use Rattle.xt_spec.specs.Tree.{Items}
 use Rattle.xt_spec.specs.Plain.{IsPlainDocument}
