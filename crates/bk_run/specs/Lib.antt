@@ -1,2 +1,4 @@
 pub mod Replies
 pub mod Stops
+pub mod Doing
+pub mod Telling

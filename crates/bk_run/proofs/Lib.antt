@@ -1,0 +1,2 @@
+pub mod DoingLemmas
+pub mod TellingLemmas
