@@ -1,2 +1,3 @@
 pub mod DoingLemmas
 pub mod TellingLemmas
+pub mod RunExists
