@@ -1,16 +1,15 @@
 -- Edits and bursts over a book that opens have replies, and leave one that opens.
-use Rattle.std.proofs.Common.{◌≡◌, ◌≢◌, ◌∙◌, ℕ, zero, suc, ◌<◌, ◌≤◌, ◌+◌, List, [], ◌∷◌, ◌++◌, length, take, drop, take_at, drop_at, refl, sym, ap, subst, arith, append_assoc, append-nil, length-append, Option, Some, None, Bool, true, false, nat_eq, IsTrue, bytes_eq, inl, inr, ◌⊎◌, ◌||◌}
-use Rattle.std.specs.List.{list_all, list_any}
+use Rattle.std.proofs.Common.{◌≡◌, ◌≢◌, ◌∙◌, ℕ, zero, suc, ◌≤◌, ◌+◌, List, [], ◌∷◌, ◌++◌, length, take, drop, take_at, drop_at, refl, sym, ap, subst, arith, append_assoc, append-nil, length-append, Some, Bool, true, false, nat_eq, bytes_eq, ◌||◌}
+use Rattle.std.specs.List.{list_any}
 use Rattle.std.proofs.lemmas.Slice.Eq.{bytes_eq-Decides}
 use Rattle.std.specs.Cmp.Lexicographic.{pointwise}
-use Rattle.xt_spec.specs.Char.{is_char}
 use Rattle.xt_spec.specs.Tree.{Items, nil, element, leaf, leaf_item, text_item, source_text, close_text}
 use Rattle.xt_spec.specs.Plain.{IsPlainDocument}
-use Rattle.ed_spec.specs.Paths.{item_in, item_at, replaced_in, replaced}
+use Rattle.ed_spec.specs.Paths.{item_in, item_at, replaced_in}
 use Rattle.ed_spec.specs.TextEdit.{text_written, text_edited}
-use Rattle.ed_spec.specs.Book.{Book, with_file, Opens}
-use Rattle.ed_spec.specs.Edit.{Edit, text_edit, IsInText, range_replaced, edited, Accepts, accepted, AcceptsIn}
-use Rattle.ed_spec.specs.Session.{Session, Command, edit, undo, redo, burst, Reply, done, refused, saved_files, Does, accepts, refuses, saves, AreDifferences, after_edit, after_burst, Step, DoesAll, nothing, then}
+use Rattle.ed_spec.specs.Book.{Book, with_file}
+use Rattle.ed_spec.specs.Edit.{Edit, range_replaced, Accepts, accepted}
+use Rattle.ed_spec.specs.Session.{Session, Command, edit, undo, redo, burst, Reply, done, refused, saved_files, Does, accepts, refuses, saves, after_edit, after_burst, nothing, then}
 use Rattle.bk_run.specs.Sound.{IsSound, IsPlainCommand, ArePlainCommands, AllReply}
 use Rattle.ed_laws.specs.Outcome.{Outcome, HasOutcome}
 use Rattle.ed_laws.specs.Outcome as outcome
@@ -32,16 +31,20 @@ splits (leaf kind t rest) (suc index) path text is =
     (t ++ front, back, λ others. ap (λ (l : List ℕ). t ++ l) (same others) ∙ sym (append_assoc t (front ++ source_text others) back) ∙ ap (λ (l : List ℕ). l ++ back) (sym (append_assoc t front (source_text others))))
 splits (element open_tag kids close rest) zero [] text is = absurd (cc)
 splits (element open_tag kids close rest) zero (next ∷ path) text is =
-    let (front, back, same) = splits kids next path text is in
-    (open_tag ++ front, back ++ (close_text close ++ source_text rest),
-     λ others. ap (λ (l : List ℕ). ((open_tag ++ l) ++ close_text close) ++ source_text rest) (same others) ∙ inner open_tag front (source_text others) back (close_text close) (source_text rest))
+    let (front, back, same) = splits kids next path text is in (
+      open_tag ++ front,
+      back ++ (close_text close ++ source_text rest),
+      λ others. ap (λ (l : List ℕ). ((open_tag ++ l) ++ close_text close) ++ source_text rest) (same others) ∙ inner open_tag front (source_text others) back (close_text close) (source_text rest),
+    )
   where
     inner : (a b c d e f : List ℕ) → ((a ++ ((b ++ c) ++ d)) ++ e) ++ f ≡ ((a ++ b) ++ c) ++ (d ++ (e ++ f))
     inner a b c d e f = simp (append_assoc)
 splits (element open_tag kids close rest) (suc index) path text is =
-    let (front, back, same) = splits rest index path text is in
-    ((open_tag ++ source_text kids ++ close_text close) ++ front, back,
-     λ others. ap (λ (l : List ℕ). (open_tag ++ source_text kids ++ close_text close) ++ l) (same others) ∙ outer (open_tag ++ source_text kids ++ close_text close) front (source_text others) back)
+    let (front, back, same) = splits rest index path text is in (
+      (open_tag ++ source_text kids ++ close_text close) ++ front,
+      back,
+      λ others. ap (λ (l : List ℕ). (open_tag ++ source_text kids ++ close_text close) ++ l) (same others) ∙ outer (open_tag ++ source_text kids ++ close_text close) front (source_text others) back,
+    )
   where
     outer : (a b c d : List ℕ) → a ++ ((b ++ c) ++ d) ≡ ((a ++ b) ++ c) ++ d
     outer a b c d = simp (append_assoc)
@@ -54,18 +57,21 @@ stands_somewhere file items (index ∷ path) text joined is =
     let whole : file ≡ (front ++ text) ++ back = sym joined ∙ sym (ap source_text (same_replaced items index path text is)) ∙ same (leaf text_item text nil) ∙ ap (λ (l : List ℕ). (front ++ l) ++ back) (append-nil text) in
     let size : length file ≡ (length front + length text) + length back = ap (λ (l : List ℕ). length l) whole ∙ length-append (front ++ text) back ∙ ap (λ (n : ℕ). n + length back) (length-append front text) in
     let before : take (length front) file ≡ front = ap (λ (l : List ℕ). take (length front) l) (whole ∙ append_assoc front text back) ∙ take_at front (text ++ back) (length front) refl in
-    let behind : drop (length front + length text) file ≡ back = ap (λ (l : List ℕ). drop (length front + length text) l) whole ∙ drop_at (front ++ text) back (length front + length text) (length-append front text) in
-    (length front, length front + length text, record {
-      order = omega arith;
-      within = omega arith;
-      replaced = λ others. same others ∙ ap (λ (l : List ℕ). (l ++ source_text others) ++ back) (sym before) ∙ ap (λ (l : List ℕ). (take (length front) file ++ source_text others) ++ l) (sym behind);
-    })
+    let behind : drop (length front + length text) file ≡ back = ap (λ (l : List ℕ). drop (length front + length text) l) whole ∙ drop_at (front ++ text) back (length front + length text) (length-append front text) in (
+      length front,
+      length front + length text,
+      record {
+        order = omega arith;
+        within = omega arith;
+        replaced = λ others. same others ∙ ap (λ (l : List ℕ). (l ++ source_text others) ++ back) (sym before) ∙ ap (λ (l : List ℕ). (take (length front) file ++ source_text others) ++ l) (sym behind);
+      },
+    )
 
 -- after an accepted edit the root is a plain document again
 pub accepted_plain : (bytes : List ℕ) (items others : Items) (e : Edit) → IsPlainDocument bytes items → Accepts items e others → IsPlainDocument (source_text others) others
 accepted_plain bytes items _ _ plain (accepted place from to new path characters inside are fits) =
     let value = range_replaced characters from to new in
-    let is_new : IsNewText items place from to new path value = record { characters = characters; inside = inside; new_are = are; value_is = refl; } in
+    let is_new : IsNewText items place from to new path value = record { characters = characters; inside = inside; new_are = are; value_is = refl } in
     let there = new_text_there items place new path value from to is_new in
     let stands = stands_somewhere bytes items path there.0 plain.reading.joined there.1 in
     let joined : source_text (text_edited false items path value) ≡ take stands.0 bytes ++ source_text (text_written value) ++ drop stands.1 bytes = stands.2.replaced (text_written value) in
@@ -105,7 +111,7 @@ edit_replies root s e sound = by (has_an_outcome sound.bytes sound.items e sound
       sound = record {
         bytes = source_text others;
         items = others;
-        opens = record { found = file_there root (source_text others) s.book; plain = accepted_plain sound.bytes sound.items others e sound.opens.plain has; };
+        opens = record { found = file_there root (source_text others) s.book; plain = accepted_plain sound.bytes sound.items others e sound.opens.plain has };
         saved = sound.saved;
         there = sound.there;
         others = λ name unnamed. other_file name unnamed ∙ sound.others name unnamed;
@@ -142,7 +148,7 @@ burst_replies root s sound = by (bytes_eq sound.bytes sound.saved) refl
         record {
           reply = saved_files 0;
           next = after_burst s;
-          does = saves [] (record { distinct = refl; only = λ name none. absurd (cc); all = λ name other. absurd (other (subst (λ (n : List ℕ). s.book n ≡ s.saved n) (differs root s sound name other) same)); });
+          does = saves [] (record { distinct = refl; only = λ name none. absurd (cc); all = λ name other. absurd (other (subst (λ (n : List ℕ). s.book n ≡ s.saved n) (differs root s sound name other) same)) });
           sound = saved_sound root s sound;
         }
     by false is =
@@ -182,7 +188,7 @@ command_replies root s redo plain sound = absurd plain
 
 -- edits and bursts have replies
 pub all_reply : (root : List ℕ) (s : Session) (commands : List Command) → ArePlainCommands commands → IsSound root s → AllReply root s commands
-all_reply root s [] plain sound = record { steps = []; last = s; does = nothing s; sound = sound; }
+all_reply root s [] plain sound = record { steps = []; last = s; does = nothing s; sound = sound }
 all_reply root s (command ∷ commands) plain sound =
     let first = command_replies root s command plain.0 sound in
     let others = all_reply root first.next commands plain.1 first.sound in

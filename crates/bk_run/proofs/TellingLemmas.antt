@@ -1,12 +1,10 @@
 -- Replies that are told, one after the other.
-use Rattle.std.proofs.Common.{◌≡◌, ◌≤◌, ◌<◌, ◌+◌, ◌⊎◌, ◌∙◌, ℕ, suc, List, [], ◌∷◌, ◌++◌, Bool, true, false, ◌||◌, Some, length, take, drop, get_or, map, refl, sym, ap, ap₂, subst, arith, inl, inr, ⊎_elim, append_assoc, length-append}
-use Rattle.std.specs.Prelude.{IsTrue, Result, MatchResult, IfOk, codes}
-use Rattle.std.proofs.Math.Path.{fun_ext}
+use Rattle.std.proofs.Common.{◌≡◌, ◌≤◌, ◌<◌, ◌+◌, ◌∙◌, ℕ, List, [], ◌∷◌, ◌++◌, Bool, true, false, ◌||◌, Some, length, take, drop, get_or, map, refl, sym, ap, ap₂, subst, arith, inl, inr, ⊎_elim, append_assoc}
 use Rattle.std.proofs.Math.Seq.{take-append-add, take-length}
 use Rattle.std.proofs.lemmas.Bool.{cases_lt}
-use Rattle.std.proofs.lemmas.List.{append-nil, take_all, take_more, take-append-le, length-take-le, drop_more, map_more, take-append-drop, map-append}
+use Rattle.std.proofs.lemmas.List.{append-nil, take_all, take-append-le, length-take-le, drop_more, map_more, take-append-drop, map-append}
 use Rattle.bk_desk.specs.declared.desk_name.DeskName.TheVariants.{Gate}
-use Rattle.bk_desk.specs.Disk.{DiskState, CrashState, IsCrashState, WhileTelling, Tells, TellsPrefix, NothingPending}
+use Rattle.bk_desk.specs.Disk.{DiskState, CrashState, IsCrashState, WhileTelling, Tells, TellsPrefix}
 use Rattle.bk_desk.specs.CrashPoints.{AtEachCrash}
 use Rattle.bk_desk.proofs.CrashPoints.{joined, weaker}
 use Rattle.jr_burst.specs.SavedFiles.{book_files, is_open_gate, recovered_files}
@@ -20,7 +18,7 @@ use Rattle.bk_script.specs.declared.command.Command.TheVariants as code
 use Rattle.bk_script.specs.declared.op.Op.TheVariants as op
 use Rattle.bk_script.specs.View.{command_of}
 use Rattle.bk_run.specs.Replies.{AreCommandsOf, IsCommandOf, reply_text, replies_text, is_refusal, any_refused}
-use Rattle.bk_run.specs.Stops.{saved_after, saved_next, IsCut, IsOfOneBurst}
+use Rattle.bk_run.specs.Stops.{saved_after, IsCut, IsOfOneBurst}
 use Rattle.bk_run.specs.Doing.{asked_of, Stands, IsDone}
 use Rattle.bk_run.specs.Telling.{IsTold, AreTold, MayStop}
 use Rattle.bk_run.proofs.DoingLemmas.{stands_recovers}
@@ -203,8 +201,10 @@ prefix_more start old new whole rest steps step parts so_far count told = ⊎_el
     cut lt = (length (replies_text whole) + count, told_is ∙ ap (λ (l : List ℕ). start.told ++ l) (sym (front count (omega (arith, lt)))))
 
     all : length (reply_text step.reply) ≤ count → (count : ℕ) × (new.told ≡ start.told ++ take count (replies_text steps))
-    all le = (length (replies_text whole) + length (reply_text step.reply),
-        told_is ∙ ap (λ (l : List ℕ). start.told ++ (replies_text whole ++ l)) (take_all count (reply_text step.reply) le ∙ sym (take-length (reply_text step.reply))) ∙ ap (λ (l : List ℕ). start.told ++ l) (sym (front (length (reply_text step.reply)) (omega arith))))
+    all le = (
+      length (replies_text whole) + length (reply_text step.reply),
+      told_is ∙ ap (λ (l : List ℕ). start.told ++ (replies_text whole ++ l)) (take_all count (reply_text step.reply) le ∙ sym (take-length (reply_text step.reply))) ∙ ap (λ (l : List ℕ). start.told ++ l) (sym (front (length (reply_text step.reply)) (omega arith))),
+    )
 
 pub prefix_all : (root : List ℕ) (s last : Session) (commands : List Command) (k : Kept) (old new : DiskState) (is_refused : Bool) (steps : List Step) → AreTold root s commands k old new is_refused → DoesAll root s commands steps last
     → (count : ℕ) × (new.told ≡ old.told ++ take count (replies_text steps))
