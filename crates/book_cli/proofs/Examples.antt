@@ -4,32 +4,10 @@ use Rattle.std.specs.Str.{is_utf8, chars}
 use Rattle.std.proofs.Math.Utf8.{encode}
 use Rattle.bk_desk.specs.declared.desk_name.DeskName.{DeskName}
 use Rattle.bk_name.specs.FileName.{is_file_name}
-use Rattle.book_cli.specs.TextValue.{text_value, quoted_value, char_of}
 use Rattle.book_cli.specs.Words.{is_root, root_of}
 use Rattle.book_cli.specs.Output.{FileOutput, missing, IsOutput, usage_line}
 use Rattle.book_cli.specs.Effects.{file_steps}
 use Rattle.book_cli.specs.RealFiles.{synced_with, IsFrontOf}
-
--- line ends are as read: CR LF is one LF, a reference to a CR stays
-lines : text_value (0x61 ∷ 0xD ∷ 0xA ∷ 0xD ∷ 0x62 ∷ []) ≡ 0x61 ∷ 0xA ∷ 0xA ∷ 0x62 ∷ []
-lines = refl
-
--- white space of an attribute value is a space, that of a text stays
-spaces : quoted_value (codes "'1\t2'") ≡ codes "1 2"
-spaces = refl
-
-tabs : text_value (codes "1\t2") ≡ codes "1\t2"
-tabs = refl
-
--- references stand for their characters; decimal, hexadecimal, predefined
-decimal : char_of (codes "&#65;") ≡ 65
-decimal = refl
-
-hexadecimal : char_of (codes "&#x4a;") ≡ 74
-hexadecimal = refl
-
-predefined : char_of (codes "&amp;") ≡ 0x26
-predefined = refl
 
 -- no words and two words have no reading, whatever they are
 no_words : root_of [] ≡ None

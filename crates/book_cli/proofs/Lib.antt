@@ -1,12 +1,3 @@
-pub mod ValueLemmas
-pub mod CharLemmas
-pub mod ReferenceLemmas
-pub mod TextLemmas
-pub mod PlaceLemmas
-pub mod TreeLemmas
-pub mod ItemLemmas
-pub mod NodeLemmas
 pub mod RunLemmas
-pub mod UniqueLemmas
 pub mod OutputLemmas
 pub mod Examples

@@ -9,7 +9,7 @@ use Rattle.bk_spec.specs.Print.{print_tree}
 use Rattle.bk_desk.specs.declared.desk.Got.TheVariants.{Absent, Bytes, Longer}
 use Rattle.bk_desk.specs.Disk.{got_of}
 use Rattle.book_cli.specs.Output.{FileOutput, missing, not_yet, opened, missing_line, not_yet_line, file_uri}
-use Rattle.book_cli.proofs.NodeLemmas.{document_nodes}
+use Rattle.bk_place.proofs.Theorems.{document_nodes}
 
 pub tree_output : (file uri bytes text : List ℕ) (items : Items) → uri ≡ file_uri file → IsPlainDocument bytes items → ((nodes : Nodes) → GivesNodes file uri items nodes → text ≡ print_tree nodes) → FileOutput file (Some bytes) 0 text
 tree_output file uri bytes text items is plain prints =

@@ -4,12 +4,10 @@
 ghost use Rattle.std.specs.Prelude.{◌≡◌};
 
 pub mod laws;
-mod print;
 mod real;
 pub mod run;
 #[cfg(test)]
 mod tests;
-mod value;
 mod words;
 
 use bk_desk::StdSource;

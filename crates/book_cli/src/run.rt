@@ -10,10 +10,10 @@ ghost use Rattle.bk_desk.specs.Cause.{HasCause};
 ghost use Rattle.book_cli.specs.Output.{usage_line, missing_line, not_yet_line, file_uri, FileOutput, IsOutput, is_exit_status, WritesOutput, WritesPrefix};
 ghost use Rattle.book_cli.specs.Effects.{size_of_got, file_steps, word_steps, TakesSteps, KeepsFiles, MayCrashIn};
 
-use crate::print::print;
 use crate::words::root_of;
 use bk_desk::{Desk, DeskErr, DeskName, Got, Source};
 use bk_name::Name;
+use bk_place::print;
 use std::alloc::{AllocError, Global};
 use std::sync::ledger::Ledger;
 use xt_lex::Steps;

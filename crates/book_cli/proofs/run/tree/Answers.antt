@@ -1,7 +1,7 @@
 use Rattle.std.proofs.Common.{refl, length}
 use Rattle.xt_tree.specs.Meaning.{items_in}
 use Rattle.xt_tree.specs.Places.{marks_of}
-use Rattle.book_cli.proofs.ItemLemmas.{tags_in_place}
+use Rattle.bk_place.proofs.Theorems.{tags_in_place}
 use Rattle.book_cli.proofs.RunLemmas.{tree_output}
 use Rattle.book_cli.proofs.run.tree.Goals as goal
 

@@ -1,0 +1,3 @@
+pub mod ValueParts
+pub mod TextValue
+pub mod Printing

@@ -1,8 +1,0 @@
-use Rattle.xt_tree.specs.Meaning.{items_in}
-use Rattle.book_cli.proofs.TreeLemmas.{items_whole}
-use Rattle.book_cli.proofs.print.print.Goals as goal
-
-pub returns : goal.returns
-returns c = record {
-  value = λ in_place. items_whole c.args.file.now c.args.uri.now (items_in c.args.bytes.now c.args.items.now) c.new-indent.result.items c.new-out.result.items c.put_items.new.out.items c.new-indent.ensures.items c.new-out.ensures.items (c.in_ok-put_items.ensures.value in_place);
-}
