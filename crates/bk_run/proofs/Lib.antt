@@ -1,2 +1,5 @@
 pub mod DoingLemmas
 pub mod TellingLemmas
+pub mod RunLemmas
+pub mod StopLemmas
+mod Examples

@@ -54,7 +54,7 @@ replies_text-push : (whole : List Step) (step : Step) → replies_text (whole ++
 replies_text-push [] step = append-nil (reply_text step.reply)
 replies_text-push (first ∷ whole) step = ap (λ (l : List ℕ). reply_text first.reply ++ l) (replies_text-push whole step) ∙ sym (append_assoc (reply_text first.reply) (replies_text whole) (reply_text step.reply))
 
-replies_text-append : (whole rest : List Step) → replies_text (whole ++ rest) ≡ replies_text whole ++ replies_text rest
+pub replies_text-append : (whole rest : List Step) → replies_text (whole ++ rest) ≡ replies_text whole ++ replies_text rest
 replies_text-append [] rest = refl
 replies_text-append (first ∷ whole) rest = ap (λ (l : List ℕ). reply_text first.reply ++ l) (replies_text-append whole rest) ∙ sym (append_assoc (reply_text first.reply) (replies_text whole) (replies_text rest))
 

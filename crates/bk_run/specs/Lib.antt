@@ -2,3 +2,4 @@ pub mod Replies
 pub mod Stops
 pub mod Doing
 pub mod Telling
+pub mod Runs

@@ -2,9 +2,11 @@
 #![tactic(auto)]
 
 mod doing;
+mod laws;
 mod replies;
 mod stop;
 mod telling;
 
+pub use laws::{steps_exist, told_is_saved};
 pub use stop::Stop;
 pub use telling::tell_replies;

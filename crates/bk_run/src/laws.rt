@@ -1,0 +1,24 @@
+//! Laws of runs, each a clause of a function that does nothing.
+ghost use Rattle.std.specs.Prelude.{◌≡◌, ◌++◌, ℕ, List, Some};
+ghost use Rattle.bk_desk.specs.Disk.{DiskState, CrashState};
+ghost use Rattle.jr_burst.specs.SavedFiles.{recovered_files};
+ghost use Rattle.xt_spec.specs.Tree.{Items};
+ghost use Rattle.ed_spec.specs.Book.{Book, Opens};
+ghost use Rattle.ed_spec.specs.Session as model;
+ghost use Rattle.bk_run.specs.Replies.{replies_text};
+ghost use Rattle.bk_run.specs.Stops.{saved_after, IsOfOneBurst};
+ghost use Rattle.bk_run.specs.Runs.{HasOpenBooks};
+
+/// Where the root opens, commands have replies: `value` says so of a session in which nothing was done.
+pub fn steps_exist()
+    ensures law { (root : List ℕ) (s : model.Session) (commands : List model.Command) → HasOpenBooks root s
+        → (steps : List model.Step) × (last : model.Session) × model.DoesAll root s commands steps last }
+    ensures value { (root bytes : List ℕ) (book : Book) (items : Items) (commands : List model.Command) → Opens root book bytes items
+        → (steps : List model.Step) × (last : model.Session) × model.DoesAll root (model.opened root book) commands steps last }
+{}
+
+/// Where all replies were told, the files recovered are those last saved.
+pub fn told_is_saved()
+    ensures law { (start : DiskState) (first : Book) (steps : List model.Step) (more : List ℕ) (crash : CrashState) → IsOfOneBurst start first steps more crash
+        → crash.told ≡ start.told ++ replies_text steps → recovered_files crash.image ≡ Some (saved_after first steps) }
+{}
