@@ -6,7 +6,7 @@ use Rattle.std.proofs.lemmas.Bool.{cases_Bool}
 use Rattle.std.proofs.lemmas.List.{append-nil}
 use Rattle.std.specs.List.{list_any}
 use Rattle.std.specs.Cmp.Lexicographic.{pointwise, bytes_decides}
-use Rattle.xt_spec.specs.Tree.{source_text}
+use Rattle.xt_spec.specs.Tree.{Items, source_text}
 use Rattle.bk_desk.specs.declared.desk_name.DeskName.TheVariants.{Gate}
 use Rattle.bk_desk.specs.Disk.{DiskImage, DiskState, CrashState, IsCrashImage, IsCrashState, NothingPending}
 use Rattle.bk_desk.specs.CrashPoints.{AtEachCrash}
@@ -14,12 +14,13 @@ use Rattle.bk_desk.proofs.CrashPoints.{started}
 use Rattle.jr_burst.specs.SavedFiles.{Files, book_files, overlaid, is_open_gate, recovered_files}
 use Rattle.jr_burst.specs.Commit.{IsOldOrNew, IsClosed, Leaves}
 use Rattle.jr_burst.proofs.Recovering.{closed_recovers}
-use Rattle.ed_spec.specs.Book.{Book, with_file}
+use Rattle.ed_spec.specs.Book.{Book, with_file, Opens}
 use Rattle.ed_spec.specs.Edit.{Edit}
-use Rattle.ed_spec.specs.Session.{Session, Reply, edit, burst, done, refused, saved_files, AreDifferences, after_edit, after_burst, Does, accepts, refuses, saves}
+use Rattle.ed_spec.specs.Session.{Session, opened, Reply, edit, burst, done, refused, saved_files, AreDifferences, after_edit, after_burst, Does, accepts, refuses, saves}
 use Rattle.ed_session.specs.declared.refusal.Refusal.{Refusal}
 use Rattle.ed_session.specs.declared.refusal.EditFault.TheVariants.{Refused}
 use Rattle.ed_session.specs.Kept.{Kept}
+use Rattle.ed_session.specs.Start.{IsStarted}
 use Rattle.ed_session.specs.Edits.{refusal_of, IsRefusedIn, IsEdited}
 use Rattle.ed_session.specs.Burst.{item_of, IsSaved, IsBurst, MayCrashInBurst}
 use Rattle.bk_script.specs.declared.command.Command.{Command}
@@ -49,6 +50,27 @@ same_file name bytes book there = fun_ext (λ other. by other (pointwise nat_eq 
     by : (other : List ℕ) (same : Bool) → pointwise nat_eq name other ≡ same → with_file name bytes book other ≡ book other
     by other true is = rw is (sym there ∙ ap book ((bytes_decides name other).0 is))
     by other false is = rw is refl
+
+-- ---- the start
+
+-- a session that was started stands, with nothing done
+pub start_stands : (root : List ℕ) (old now : DiskState) (k : Kept) → IsStarted root old now k → Stands k now (opened root (book_files now.files))
+start_stands root old now k is = record {
+  book = refl;
+  edited = sym (same_file k.root k.bytes (book_files now.files) there);
+  root = there ∙ ap (λ (l : List ℕ). Some l) (sym is.over.saved);
+  gate = is.recovered.gate;
+  durable = is.recovered.durable;
+}
+  where
+    there : book_files now.files k.root ≡ Some k.bytes
+    there = ap (book_files now.files) is.over.named ∙ is.over.found
+
+pub start_closes : (root : List ℕ) (old now : DiskState) (k : Kept) → IsStarted root old now k → IsClosed now
+start_closes root old now k is = record { closed = is.recovered.gate; durable = is.recovered.durable Gate }
+
+pub start_opens : (root : List ℕ) (old now : DiskState) (k : Kept) → IsStarted root old now k → (items : Items) × Opens root (book_files now.files) k.bytes items
+start_opens root old now k is = (is.over.items, record { found = is.over.found; plain = is.over.plain })
 
 -- ---- edits
 

@@ -1,13 +1,24 @@
 //! Laws of runs, each a clause of a function that does nothing.
 ghost use Rattle.std.specs.Prelude.{◌≡◌, ◌++◌, ℕ, List, Some};
 ghost use Rattle.bk_desk.specs.Disk.{DiskState, CrashState};
-ghost use Rattle.jr_burst.specs.SavedFiles.{recovered_files};
+ghost use Rattle.jr_burst.specs.SavedFiles.{book_files, recovered_files};
+ghost use Rattle.jr_burst.specs.Commit.{IsClosed};
+ghost use Rattle.ed_session.specs.Kept.{Kept};
+ghost use Rattle.ed_session.specs.Start.{IsStarted};
+ghost use Rattle.bk_run.specs.Doing.{Stands};
 ghost use Rattle.xt_spec.specs.Tree.{Items};
 ghost use Rattle.ed_spec.specs.Book.{Book, Opens};
 ghost use Rattle.ed_spec.specs.Session as model;
 ghost use Rattle.bk_run.specs.Replies.{replies_text};
 ghost use Rattle.bk_run.specs.Stops.{saved_after, IsOfOneBurst};
 ghost use Rattle.bk_run.specs.Runs.{HasOpenBooks};
+
+/// A session that was started stands over its disk, where the gate is closed, with nothing done, and its root opens.
+pub fn start_stands()
+    ensures law { (root : List ℕ) (old now : DiskState) (k : Kept) → IsStarted root old now k → Stands k now (model.opened root (book_files now.files)) }
+    ensures value { (root : List ℕ) (old now : DiskState) (k : Kept) → IsStarted root old now k → (items : Items) × Opens root (book_files now.files) k.bytes items }
+    ensures keeps { (root : List ℕ) (old now : DiskState) (k : Kept) → IsStarted root old now k → IsClosed now }
+{}
 
 /// Where the root opens, commands have replies: `value` says so of a session in which nothing was done.
 pub fn steps_exist()

@@ -7,6 +7,9 @@ mod replies;
 mod stop;
 mod telling;
 
-pub use laws::{steps_exist, told_is_saved};
+pub use laws::{start_stands, steps_exist, told_is_saved};
 pub use stop::Stop;
 pub use telling::tell_replies;
+
+#[cfg(test)]
+mod tests;
