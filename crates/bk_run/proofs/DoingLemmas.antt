@@ -1,8 +1,7 @@
 -- What a command makes of a session and of the disk below it.
-use Rattle.std.proofs.Common.{◌≡◌, ◌≢◌, ◌≤◌, ◌⊎◌, ◌∙◌, ℕ, List, [], ◌∷◌, ◌++◌, Bool, true, false, cond, Some, None, Option, length, refl, sym, ap, subst, inl, inr, ⊎_elim, bytes_eq}
+use Rattle.std.proofs.Common.{◌≡◌, ◌≢◌, ◌≤◌, ◌∙◌, ℕ, List, [], ◌∷◌, Bool, true, false, Some, length, refl, sym, ap, subst, inl, inr, ⊎_elim, bytes_eq}
 use Rattle.std.specs.Prelude.{nat_eq, IsTrue}
 use Rattle.std.proofs.Math.Path.{fun_ext}
-use Rattle.std.proofs.lemmas.Bool.{cases_Bool}
 use Rattle.std.proofs.lemmas.List.{append-nil}
 use Rattle.std.specs.List.{list_any}
 use Rattle.std.specs.Cmp.Lexicographic.{pointwise, bytes_decides}
@@ -12,7 +11,7 @@ use Rattle.bk_desk.specs.Disk.{DiskImage, DiskState, CrashState, IsCrashImage, I
 use Rattle.bk_desk.specs.CrashPoints.{AtEachCrash}
 use Rattle.bk_desk.proofs.CrashPoints.{started}
 use Rattle.jr_burst.specs.SavedFiles.{Files, book_files, overlaid, is_open_gate, recovered_files}
-use Rattle.jr_burst.specs.Commit.{IsOldOrNew, IsClosed, Leaves}
+use Rattle.jr_burst.specs.Commit.{IsClosed}
 use Rattle.jr_burst.proofs.Recovering.{closed_recovers}
 use Rattle.ed_spec.specs.Book.{Book, with_file, Opens}
 use Rattle.ed_spec.specs.Edit.{Edit}
@@ -25,7 +24,6 @@ use Rattle.ed_session.specs.Edits.{refusal_of, IsRefusedIn, IsEdited}
 use Rattle.ed_session.specs.Burst.{item_of, IsSaved, IsBurst, MayCrashInBurst}
 use Rattle.bk_script.specs.declared.command.Command.{Command}
 use Rattle.bk_script.specs.declared.command.Command.TheVariants as code
-use Rattle.bk_run.specs.Replies.{reply_text}
 use Rattle.bk_run.specs.Doing.{asked_of, Stands, IsDone, MayCrashIn}
 use Rattle.bk_run.specs.Telling.{MayStop}
 

@@ -5,13 +5,12 @@ use Rattle.std.specs.Fmt.{digits}
 use Rattle.std.specs.Str.{chars}
 use Rattle.bk_desk.specs.Disk.{DiskState, CrashState}
 use Rattle.jr_burst.specs.SavedFiles.{recovered_files}
-use Rattle.bk_script.specs.Word.{Place}
 use Rattle.bk_script.specs.Command as script
 use Rattle.ed_spec.specs.Book.{Book}
 use Rattle.ed_spec.specs.Edit.{text_edit, bad_text}
 use Rattle.ed_spec.specs.Session.{Session, Command, edit, burst, Reply, done, refused, nothing_to_undo, saved_files, Step}
 use Rattle.bk_run.specs.Replies.{IsCommandOf, AreCommandsOf, replies_text, any_refused}
-use Rattle.bk_run.specs.Stops.{saved_after, IsCut, IsOfOneBurst}
+use Rattle.bk_run.specs.Stops.{IsCut, IsOfOneBurst}
 use Rattle.bk_run.proofs.StopLemmas.{told_is_saved}
 
 module _ (s : Session) where

@@ -1,14 +1,13 @@
 -- Each command has a reply, where the books of the session open.
 use Rattle.std.proofs.Common.{◌≡◌, ◌≢◌, ◌≤◌, ◌+◌, ◌∙◌, ℕ, zero, suc, List, [], ◌∷◌, ◌++◌, Bool, true, false, Some, None, Option, length, take, drop, refl, sym, ap, subst, arith, append_assoc, length-append, bytes_eq, ◌⊎◌, inl, inr, ⊎_elim}
-use Rattle.std.specs.Prelude.{nat_eq}
 use Rattle.std.proofs.lemmas.List.{take_at, drop_at}
 use Rattle.std.specs.List.{list_all}
-use Rattle.std.specs.Cmp.Lexicographic.{pointwise, bytes_decides}
+use Rattle.std.specs.Cmp.Lexicographic.{bytes_decides}
 use Rattle.xt_spec.specs.Char.{is_char}
 use Rattle.xt_spec.specs.Tree.{Items, nil, element, leaf, Item, element_item, leaf_item, text_item, reference_item, comment_item, pi_item, gap, source_text, close_text}
 use Rattle.xt_spec.specs.Plain.{IsPlainDocument}
 use Rattle.xt_tree.specs.Spans.{Stands}
-use Rattle.ed_spec.specs.Paths.{item_in, item_at, replaced_in, replaced}
+use Rattle.ed_spec.specs.Paths.{item_in, item_at, replaced_in}
 use Rattle.ed_spec.specs.TextEdit.{text_written, text_edited}
 use Rattle.ed_spec.specs.Book.{Book, with_file, Opens}
 use Rattle.ed_spec.specs.Edit.{Edit, IsTextItemOf, range_replaced, Accepts, accepted}
