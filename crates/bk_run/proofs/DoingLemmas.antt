@@ -2,11 +2,10 @@
 use Rattle.std.proofs.Common.{◌≡◌, ◌≢◌, ◌≤◌, ◌∙◌, ℕ, List, [], ◌∷◌, Bool, true, false, Some, length, refl, sym, ap, subst, inl, inr, ⊎_elim, bytes_eq}
 use Rattle.std.specs.Prelude.{nat_eq, IsTrue}
 use Rattle.std.proofs.Math.Path.{fun_ext}
-use Rattle.std.proofs.lemmas.Bool.{cases_Bool}
 use Rattle.std.proofs.lemmas.List.{append-nil}
 use Rattle.std.specs.List.{list_any}
 use Rattle.std.specs.Cmp.Lexicographic.{pointwise, bytes_decides}
-use Rattle.xt_spec.specs.Tree.{source_text}
+use Rattle.xt_spec.specs.Tree.{Items, source_text}
 use Rattle.bk_desk.specs.declared.desk_name.DeskName.TheVariants.{Gate}
 use Rattle.bk_desk.specs.Disk.{DiskImage, DiskState, CrashState, IsCrashImage, IsCrashState, NothingPending}
 use Rattle.bk_desk.specs.CrashPoints.{AtEachCrash}
@@ -14,12 +13,13 @@ use Rattle.bk_desk.proofs.CrashPoints.{started}
 use Rattle.jr_burst.specs.SavedFiles.{Files, book_files, overlaid, is_open_gate, recovered_files}
 use Rattle.jr_burst.specs.Commit.{IsClosed}
 use Rattle.jr_burst.proofs.Recovering.{closed_recovers}
-use Rattle.ed_spec.specs.Book.{Book, with_file}
+use Rattle.ed_spec.specs.Book.{Book, with_file, Opens}
 use Rattle.ed_spec.specs.Edit.{Edit}
-use Rattle.ed_spec.specs.Session.{Session, Reply, edit, burst, done, refused, saved_files, AreDifferences, after_edit, after_burst, Does, accepts, refuses, saves}
+use Rattle.ed_spec.specs.Session.{Session, opened, Reply, edit, burst, done, refused, saved_files, AreDifferences, after_edit, after_burst, Does, accepts, refuses, saves}
 use Rattle.ed_session.specs.declared.refusal.Refusal.{Refusal}
 use Rattle.ed_session.specs.declared.refusal.EditFault.TheVariants.{Refused}
 use Rattle.ed_session.specs.Kept.{Kept}
+use Rattle.ed_session.specs.Start.{IsStarted}
 use Rattle.ed_session.specs.Edits.{refusal_of, IsRefusedIn, IsEdited}
 use Rattle.ed_session.specs.Burst.{item_of, IsSaved, IsBurst, MayCrashInBurst}
 use Rattle.bk_script.specs.declared.command.Command.{Command}
@@ -32,7 +32,7 @@ use Rattle.bk_run.specs.Telling.{MayStop}
 is_itself : (name : List ℕ) → pointwise nat_eq name name ≡ true
 is_itself name = (bytes_decides name name).1 refl
 
-file_there : (name bytes : List ℕ) (book : Book) → with_file name bytes book name ≡ Some bytes
+pub file_there : (name bytes : List ℕ) (book : Book) → with_file name bytes book name ≡ Some bytes
 file_there name bytes book = rw (is_itself name) refl
 
 file_twice : (name a b : List ℕ) (book : Book) → with_file name a (with_file name b book) ≡ with_file name a book
@@ -48,6 +48,27 @@ same_file name bytes book there = fun_ext (λ other. by other (pointwise nat_eq 
     by : (other : List ℕ) (same : Bool) → pointwise nat_eq name other ≡ same → with_file name bytes book other ≡ book other
     by other true is = rw is (sym there ∙ ap book ((bytes_decides name other).0 is))
     by other false is = rw is refl
+
+-- ---- the start
+
+-- a session that was started stands, with nothing done
+pub start_stands : (root : List ℕ) (old now : DiskState) (k : Kept) → IsStarted root old now k → Stands k now (opened root (book_files now.files))
+start_stands root old now k is = record {
+  book = refl;
+  edited = sym (same_file k.root k.bytes (book_files now.files) there);
+  root = there ∙ ap (λ (l : List ℕ). Some l) (sym is.over.saved);
+  gate = is.recovered.gate;
+  durable = is.recovered.durable;
+}
+  where
+    there : book_files now.files k.root ≡ Some k.bytes
+    there = ap (book_files now.files) is.over.named ∙ is.over.found
+
+pub start_closes : (root : List ℕ) (old now : DiskState) (k : Kept) → IsStarted root old now k → IsClosed now
+start_closes root old now k is = record { closed = is.recovered.gate; durable = is.recovered.durable Gate }
+
+pub start_opens : (root : List ℕ) (old now : DiskState) (k : Kept) → IsStarted root old now k → (items : Items) × Opens root (book_files now.files) k.bytes items
+start_opens root old now k is = (is.over.items, record { found = is.over.found; plain = is.over.plain })
 
 -- ---- edits
 
@@ -85,23 +106,20 @@ edit_refused k now disk s e refusal stands same (items, plain, is) = record {
 
 -- ---- saves
 
-none_differ : (a b : Book) → a ≡ b → AreDifferences a b []
+pub none_differ : (a b : Book) → a ≡ b → AreDifferences a b []
 none_differ a b same = record {
   distinct = refl;
   only = λ name among. absurd (cc);
   all = λ name other. absurd (other (ap (λ (book : Book). book name) same));
 }
 
-one_differs : (a b : Book) (root bytes saved : List ℕ) → a ≡ with_file root bytes b → b root ≡ Some saved → bytes ≢ saved → AreDifferences a b (root ∷ [])
-one_differs a b root bytes saved is there other = record {
+pub names_root : (a b : Book) (root : List ℕ) → a root ≢ b root → ((name : List ℕ) → name ≢ root → a name ≡ b name) → AreDifferences a b (root ∷ [])
+names_root a b root apart others = record {
   distinct = refl;
-  only = λ name among same. other (some_same bytes saved (sym (ap (λ (book : Book). book root) is ∙ file_there root bytes b) ∙ at_root name among same ∙ there));
-  all = λ name apart. by name apart (bytes_eq name root) refl;
+  only = λ name among same. apart (subst (λ (n : List ℕ). a n ≡ b n) (named name among) same);
+  all = λ name other. by name other (bytes_eq name root) refl;
 }
   where
-    some_same : (x y : List ℕ) → Some x ≡ Some y → x ≡ y
-    some_same x y e = cc
-
     named : (name : List ℕ) → list_any (bytes_eq name) (root ∷ []) ≡ true → name ≡ root
     named name among = one (bytes_eq name root) refl
       where
@@ -109,21 +127,36 @@ one_differs a b root bytes saved is there other = record {
         one true e = (bytes_decides name root).0 e
         one false e = let bad : false ≡ true = rw e at among in absurd (cc)
 
-    at_root : (name : List ℕ) → list_any (bytes_eq name) (root ∷ []) ≡ true → a name ≡ b name → a root ≡ b root
-    at_root name among same = subst (λ (n : List ℕ). a n ≡ b n) (named name among) same
-
     by : (name : List ℕ) → a name ≢ b name → (same : Bool) → bytes_eq name root ≡ same → list_any (bytes_eq name) (root ∷ []) ≡ true
-    by name apart true e = rw e refl
-    by name apart false e = absurd (apart (ap (λ (book : Book). book name) is ∙ elsewhere))
-      where
-        not_root : pointwise nat_eq root name ≡ false
-        not_root = elim (cases_Bool (pointwise nat_eq root name)) [
-          | inr f ↦ f
-          | inl f ↦ let bad : true ≡ false = sym ((bytes_decides name root).1 (sym ((bytes_decides root name).0 f))) ∙ e in absurd (cc)
-        ]
+    by name other true e = rw e refl
+    by name other false e = absurd (other (others name (λ is.
+        let bad : true ≡ false = sym ((bytes_decides name root).1 is) ∙ e in
+        cc)))
 
-        elsewhere : with_file root bytes b name ≡ b name
-        elsewhere = rw not_root refl
+-- two books are the same where they are at the root, and beside it
+pub all_same : (root : List ℕ) (a b : Book) → a root ≡ b root → ((name : List ℕ) → name ≢ root → a name ≡ b name) → a ≡ b
+all_same root a b here others = fun_ext (λ name. by name (bytes_eq name root) refl)
+  where
+    by : (name : List ℕ) (same : Bool) → bytes_eq name root ≡ same → a name ≡ b name
+    by name true e = subst (λ (n : List ℕ). a n ≡ b n) (sym ((bytes_decides name root).0 e)) here
+    by name false e = others name (λ is.
+        let bad : true ≡ false = sym ((bytes_decides name root).1 is) ∙ e in
+        cc)
+
+-- no other file changes
+pub other_file : (root name bytes : List ℕ) (book : Book) → name ≢ root → with_file root bytes book name ≡ book name
+other_file root name bytes book apart = by (pointwise nat_eq root name) refl
+  where
+    by : (same : Bool) → pointwise nat_eq root name ≡ same → with_file root bytes book name ≡ book name
+    by true is = absurd (apart (sym ((bytes_decides root name).0 is)))
+    by false is = rw is refl
+
+one_differs : (a b : Book) (root bytes saved : List ℕ) → a ≡ with_file root bytes b → b root ≡ Some saved → bytes ≢ saved → AreDifferences a b (root ∷ [])
+one_differs a b root bytes saved is there other =
+    names_root a b root (λ same. other (some_same bytes saved (sym (ap (λ (book : Book). book root) is ∙ file_there root bytes b) ∙ same ∙ there))) (λ name apart. ap (λ (book : Book). book name) is ∙ other_file root name bytes b apart)
+  where
+    some_same : (x y : List ℕ) → Some x ≡ Some y → x ≡ y
+    some_same x y e = cc
 
 saved_stands : (k now : Kept) (disk : DiskState) (s : Session) (names : List (List ℕ)) (count : ℕ) → Stands k disk s → now ≡ record { root = k.root; bytes = k.bytes; saved = k.bytes }
     → (new : DiskState) → book_files new.files ≡ s.book → is_open_gate (new.files Gate) ≡ false → NothingPending new → AreDifferences s.book s.saved names → count ≡ length names → IsDone k.root s burst (saved_files count) now new

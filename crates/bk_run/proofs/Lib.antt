@@ -1,3 +1,5 @@
 pub mod DoingLemmas
 pub mod TellingLemmas
-pub mod RunExists
+pub mod RunLemmas
+pub mod StopLemmas
+mod Examples

@@ -19,9 +19,9 @@ use Rattle.bk_script.specs.declared.op.Op.TheVariants as op
 use Rattle.bk_script.specs.View.{command_of}
 use Rattle.bk_run.specs.Replies.{AreCommandsOf, IsCommandOf, reply_text, replies_text, is_refusal, any_refused}
 use Rattle.bk_run.specs.Stops.{saved_after, IsCut, IsOfOneBurst}
-use Rattle.bk_run.specs.Doing.{asked_of, Stands, IsDone}
+use Rattle.bk_run.specs.Doing.{asked_of, Stands, IsDone, MayCrashIn}
 use Rattle.bk_run.specs.Telling.{IsTold, AreTold, MayStop}
-use Rattle.bk_run.proofs.DoingLemmas.{stands_recovers}
+use Rattle.bk_run.proofs.DoingLemmas.{stands_recovers, doing_stop}
 
 -- ---- what the commands of the code ask
 
@@ -52,7 +52,7 @@ replies_text-push : (whole : List Step) (step : Step) → replies_text (whole ++
 replies_text-push [] step = append-nil (reply_text step.reply)
 replies_text-push (first ∷ whole) step = ap (λ (l : List ℕ). reply_text first.reply ++ l) (replies_text-push whole step) ∙ sym (append_assoc (reply_text first.reply) (replies_text whole) (reply_text step.reply))
 
-replies_text-append : (whole rest : List Step) → replies_text (whole ++ rest) ≡ replies_text whole ++ replies_text rest
+pub replies_text-append : (whole rest : List Step) → replies_text (whole ++ rest) ≡ replies_text whole ++ replies_text rest
 replies_text-append [] rest = refl
 replies_text-append (first ∷ whole) rest = ap (λ (l : List ℕ). reply_text first.reply ++ l) (replies_text-append whole rest) ∙ sym (append_assoc (reply_text first.reply) (replies_text whole) (replies_text rest))
 
@@ -91,6 +91,9 @@ pub record IsNext (root : List ℕ) (mid : Session) (command : Command) (steps w
   pub parts : steps ≡ whole ++ step ∷ rest
   pub does : Does root mid command step.reply step.session
 
+same_first : (r q : Reply) (one n : Session) (steps others : List Step) → r ≡ q → one ≡ n → steps ≡ others → (record { reply = q; session = n }) ∷ steps ≡ (record { reply = r; session = one }) ∷ others
+same_first r q one n steps others a b c = ap₂ (λ (a : Reply) (v : Session). (record { reply = a; session = v }) ∷ steps) (sym a) (sym b) ∙ ap (λ (l : List Step). (record { reply = r; session = one }) ∷ l) c
+
 pub next_of : (root : List ℕ) (s mid last : Session) (front : List Command) (command : Command) (back all : List Command) (whole steps : List Step)
     → DoesAll root s front whole mid → DoesAll root s all steps last → all ≡ front ++ command ∷ back → IsNext root mid command steps whole
 next_of root _ _ _ _ command back _ _ _ (nothing s) (nothing z) e = absurd (cc)
@@ -106,7 +109,7 @@ next_of root _ _ _ _ command back _ _ _ (then s one mid first front r whole is s
     record {
       step = rest.step;
       rest = rest.rest;
-      parts = ap₂ (λ (a : Reply) (v : Session). (record { reply = a; session = v }) ∷ steps) (sym same.0) (sym same.1) ∙ ap (λ (l : List Step). (record { reply = r; session = one }) ∷ l) rest.parts;
+      parts = same_first r q one n steps (whole ++ rest.step ∷ rest.rest) same.0 same.1 rest.parts;
       does = rest.does;
     }
 
@@ -304,6 +307,21 @@ one_prefix root s last commands i command k start old new flag steps lt is told 
     prefix_more start old new told.steps next.rest steps next.step next.parts told.told more.0 more.1
 
 module _ {D : Type 0} (standing : D → DiskState) (time : D → ℕ) (was : D → ℕ → CrashState → Type 0) where
+  -- the crashes of one command, before its reply is told
+  pub doing_crash : (root : List ℕ) (command : CommandOfCode) (k : Kept) (old mid : D) (s next : Session) (reply : Reply) → Stands k (standing old) s → Does root s (asked_of command) reply next
+      → AtEachCrash time was old mid (MayCrashIn command k (standing old)) → AtEachCrash time was old mid (MayStop (standing old) s.saved next.saved reply)
+  doing_crash root command k old mid s next reply stands does run =
+      weaker time was old mid (MayCrashIn command k (standing old)) (MayStop (standing old) s.saved next.saved reply) run (λ crash is. doing_stop root command k (standing old) s next reply crash stands does is)
+
+  -- .. and while it is told
+  pub telling_crash : (root : List ℕ) (command : CommandOfCode) (k now : Kept) (old mid new : D) (s next : Session) (reply given : Reply) → Stands k (standing old) s → Does root s (asked_of command) reply next
+      → IsDone root s (asked_of command) given now (standing mid) → (standing mid).told ≡ (standing old).told → AtEachCrash time was old mid (MayCrashIn command k (standing old))
+      → AtEachCrash time was mid new (WhileTelling (reply_text given) (standing mid)) → AtEachCrash time was old new (MayStop (standing old) s.saved next.saved reply)
+  telling_crash root command k now old mid new s next reply given stands does is same doing tells =
+      joined time was old mid new (MayStop (standing old) s.saved next.saved reply) (doing_crash root command k old mid s next reply stands does doing)
+      (weaker time was mid new (WhileTelling (reply_text given) (standing mid)) (MayStop (standing old) s.saved next.saved reply) tells
+      (λ crash at. telling_stop root s next (asked_of command) reply given now (standing old) (standing mid) crash is does same at))
+
   -- the crashes of one command more
   pub one_crash : (root : List ℕ) (s last : Session) (commands : List CommandOfCode) (i : ℕ) (command : CommandOfCode) (k : Kept) (start old new : D) (flag : Bool) (steps : List Step) (more : List ℕ) → i < length commands → command ≡ get_or commands i command
       → AreTold root s (map asked_of (take i commands)) k (standing start) (standing old) flag → DoesAll root s (map asked_of commands) steps last

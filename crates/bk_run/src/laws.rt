@@ -1,9 +1,35 @@
-//! Laws of replies. Each call does nothing: what it says is its clause.
-ghost use Rattle.std.specs.Prelude.{List, ℕ};
-ghost use Rattle.ed_spec.specs.Session.{Session, Command};
-ghost use Rattle.bk_run.specs.Sound.{IsSound, ArePlainCommands, AllReply};
+//! Laws of runs, each a clause of a function that does nothing.
+ghost use Rattle.std.specs.Prelude.{◌≡◌, ◌++◌, ℕ, List, Some};
+ghost use Rattle.bk_desk.specs.Disk.{DiskState, CrashState};
+ghost use Rattle.jr_burst.specs.SavedFiles.{book_files, recovered_files};
+ghost use Rattle.jr_burst.specs.Commit.{IsClosed};
+ghost use Rattle.ed_session.specs.Kept.{Kept};
+ghost use Rattle.ed_session.specs.Start.{IsStarted};
+ghost use Rattle.bk_run.specs.Doing.{Stands};
+ghost use Rattle.xt_spec.specs.Tree.{Items};
+ghost use Rattle.ed_spec.specs.Book.{Book, Opens};
+ghost use Rattle.ed_spec.specs.Session as model;
+ghost use Rattle.bk_run.specs.Replies.{replies_text};
+ghost use Rattle.bk_run.specs.Stops.{saved_after, IsOfOneBurst};
+ghost use Rattle.bk_run.specs.Runs.{HasOpenBooks};
 
-/// Edits and bursts over a book that opens have replies, and leave one that opens.
-pub fn commands_have_replies()
-    ensures law { (root : List ℕ) (s : Session) (commands : List Command) → ArePlainCommands commands → IsSound root s → AllReply root s commands }
+/// A session that was started stands over its disk, where the gate is closed, with nothing done, and its root opens.
+pub fn start_stands()
+    ensures law { (root : List ℕ) (old now : DiskState) (k : Kept) → IsStarted root old now k → Stands k now (model.opened root (book_files now.files)) }
+    ensures value { (root : List ℕ) (old now : DiskState) (k : Kept) → IsStarted root old now k → (items : Items) × Opens root (book_files now.files) k.bytes items }
+    ensures keeps { (root : List ℕ) (old now : DiskState) (k : Kept) → IsStarted root old now k → IsClosed now }
+{}
+
+/// Where the root opens, commands have replies: `value` says so of a session in which nothing was done.
+pub fn steps_exist()
+    ensures law { (root : List ℕ) (s : model.Session) (commands : List model.Command) → HasOpenBooks root s
+        → (steps : List model.Step) × (last : model.Session) × model.DoesAll root s commands steps last }
+    ensures value { (root bytes : List ℕ) (book : Book) (items : Items) (commands : List model.Command) → Opens root book bytes items
+        → (steps : List model.Step) × (last : model.Session) × model.DoesAll root (model.opened root book) commands steps last }
+{}
+
+/// Where all replies were told, the files recovered are those last saved.
+pub fn told_is_saved()
+    ensures law { (start : DiskState) (first : Book) (steps : List model.Step) (more : List ℕ) (crash : CrashState) → IsOfOneBurst start first steps more crash
+        → crash.told ≡ start.told ++ replies_text steps → recovered_files crash.image ≡ Some (saved_after first steps) }
 {}

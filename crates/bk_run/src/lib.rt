@@ -7,11 +7,15 @@
 
 mod doing;
 mod input;
-pub mod laws;
+mod laws;
 mod replies;
 mod stop;
 mod telling;
 
 pub use input::{InputFault, read_input};
+pub use laws::{start_stands, steps_exist, told_is_saved};
 pub use stop::Stop;
 pub use telling::tell_replies;
+
+#[cfg(test)]
+mod tests;
