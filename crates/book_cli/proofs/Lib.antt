@@ -1,3 +1,4 @@
 pub mod RunLemmas
 pub mod OutputLemmas
+pub mod RunOutputLemmas
 pub mod Examples
