@@ -7,7 +7,7 @@ use Rattle.xt_read.proofs.Theorems.{one_tree}
 use Rattle.bk_spec.specs.Node.{Nodes}
 use Rattle.bk_spec.specs.PlainNodes.{GivesNodes}
 use Rattle.bk_spec.specs.Print.{print_tree}
-use Rattle.bk_place.proofs.Theorems.{nodes_unique}
+use Rattle.bk_place.proofs.Theorems.{document_nodes, nodes_unique}
 use Rattle.ed_spec.specs.Book.{Book, Opens}
 use Rattle.ed_spec.specs.Session.{Session, Command, Reply, Step, opened, Does, accepts, refuses, undoes, undoes_nothing, redoes, redoes_nothing, saves, DoesAll, nothing, then}
 use Rattle.ed_laws.proofs.Theorems.{one_run}
@@ -167,3 +167,32 @@ root_unique (Some root) bytes files s t x y first second = script_unique root by
 pub output_unique : (words : List (List ℕ)) (bytes : List ℕ) (files : DiskImage) (s t : ℕ) (x y : List ℕ)
     → IsOutput words bytes files s x → IsOutput words bytes files t y → (s ≡ t) × (x ≡ y)
 output_unique words bytes files s t x y first second = root_unique (root_of words) bytes files s t x y first second
+
+-- ---- what a run tells
+
+-- the tree that was printed of the root's items
+pub tree_stands : (root uri : List ℕ) (book : Book) (bytes text : List ℕ) (items : Items) → uri ≡ file_uri root → Opens root book bytes items
+    → ((nodes : Nodes) → GivesNodes root uri items nodes → text ≡ print_tree nodes) → IsTree root book text
+tree_stands root uri book bytes text items is opens prints =
+    let (nodes, gives) = document_nodes root (file_uri root) bytes items opens.plain in
+    record {
+      bytes = bytes;
+      items = items;
+      nodes = nodes;
+      opens = opens;
+      gives = gives;
+      printed = prints nodes (subst (λ (u : List ℕ). GivesNodes root u items nodes) (sym is) gives);
+    }
+
+-- a root that opens has a tree
+pub tree_exists : (root : List ℕ) (book : Book) (bytes : List ℕ) (items : Items) → Opens root book bytes items → (text : List ℕ) × IsTree root book text
+tree_exists root book bytes items opens =
+    let (nodes, gives) = document_nodes root (file_uri root) bytes items opens.plain in
+    (print_tree nodes, record { bytes = bytes; items = items; nodes = nodes; opens = opens; gives = gives; printed = refl })
+
+-- the replies to the commands of a script, and the tree after them
+pub run_output : (root bytes : List ℕ) (files : DiskImage) (commands : List script.Command) (book : Book) (asked : List Command) (steps : List Step) (last : Session) (tree : List ℕ)
+    → IsScript bytes commands → recovered_files files ≡ Some book → AreCommandsOf commands asked → DoesAll root (opened root book) asked steps last → IsTree root last.book tree
+    → ScriptOutput root bytes files (status_after steps) (replies_text steps ++ tree)
+run_output root bytes files commands book asked steps last tree read found asks does shows =
+    recovered commands book read found (ran steps tree (record { asked = asked; asks = asks; last = last; does = does; shows = shows }) refl refl)
