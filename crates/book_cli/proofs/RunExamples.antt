@@ -1,0 +1,60 @@
+-- The output of a run with commands, on right and on wrong cases.
+use Rattle.std.proofs.Common.{◌≡◌, ℕ, List, [], ◌∷◌, ◌++◌, refl, sym, ap, arith, codes, true, false, Some, None}
+use Rattle.std.proofs.lemmas.Fmt.{decimal_digit}
+use Rattle.std.specs.Str.{is_utf8, chars}
+use Rattle.std.proofs.Math.Utf8.{encode}
+use Rattle.ed_spec.specs.Book.{Book}
+use Rattle.ed_spec.specs.Edit.{bad_range}
+use Rattle.ed_spec.specs.Session.{Session, done, refused}
+use Rattle.bk_desk.specs.declared.desk_name.DeskName.TheVariants as desk
+use Rattle.bk_desk.specs.Disk.{DiskImage}
+use Rattle.bk_script.specs.Script.{IsScript}
+use Rattle.bk_script.specs.Reading.{command_at, line_of, lines_of, lines_read, parts_of, script_read, word_at}
+use Rattle.bk_script.specs.declared.script.ScriptFault.TheVariants.{BadLine, NoMemory}
+use Rattle.bk_script.proofs.Scripts.{script_takes}
+use Rattle.jr_burst.specs.SavedFiles.{open_text}
+use Rattle.book_cli.specs.RunOutput.{usage_line, journal_line, IsScriptLine, status_after, BookOutput, missing, ScriptOutput, damaged, IsOutput, is_exit_status}
+
+-- without words the usage line, and no other
+usage : (bytes : List ℕ) (files : DiskImage) → IsOutput [] bytes files 2 usage_line
+usage bytes files = (refl, refl)
+
+no_other : (bytes : List ℕ) (files : DiskImage) → IsOutput [] bytes files 3 usage_line → ⊥
+no_other bytes files output = let bad : ◌≡◌ {A = ℕ} 3 2 = output.0 in absurd (cc)
+
+-- a fault of a script has one line, and want of memory none
+script_line : IsScriptLine (BadLine 2) (codes "fault script line 2\n")
+script_line = ap (λ (digits : List ℕ). codes "fault script line " ++ digits ++ codes "\n") (sym (decimal_digit 2 (omega arith)))
+
+no_line : (text : List ℕ) → IsScriptLine NoMemory text → ⊥
+no_line text line = line
+
+-- 1 where a command was refused
+accepted : (s : Session) → status_after (record { reply = done; session = s } ∷ []) ≡ 0
+accepted s = refl
+
+refused_one : (s : Session) → status_after (record { reply = done; session = s } ∷ record { reply = refused bad_range; session = s } ∷ []) ≡ 1
+refused_one s = refl
+
+-- a root that isn't there
+absent : (book : Book) → book (codes "a.xml") ≡ None → BookOutput (codes "a.xml") [] book 3 (codes "fault Missing a.xml\n")
+absent book none = missing none refl refl
+
+-- an open gate with no journal beside it
+abbrev gate_alone : DiskImage
+gate_alone desk.Gate = Some open_text
+gate_alone _ = None
+
+no_commands : IsScript [] []
+unfolding script_read lines_read lines_of parts_of line_of is_utf8 chars encode command_at word_at
+no_commands = script_takes [] [] refl
+
+no_journal : (root : List ℕ) → ScriptOutput root [] gate_alone 8 journal_line
+no_journal root = damaged [] no_commands refl refl refl
+
+-- 6 and 7 come with no whole output
+whole : is_exit_status 8 ≡ true
+whole = refl
+
+in_part : is_exit_status 6 ≡ false
+in_part = refl
