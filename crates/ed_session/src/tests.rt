@@ -43,11 +43,15 @@ fn start_over<L: Ledger>(
     start(alloc, desk, root, &mut steps)
 }
 
+fn start_on(alloc: Global, desk: &mut MemDesk, root: &Name) -> Result<Session, StartFault> {
+    let blank = Blank::new(1);
+    start_over::<Brand>(alloc, desk, root, blank)
+}
+
 /// What a start on this desk answers. Want of memory is handed on.
 fn started(alloc: Global, desk: &mut MemDesk) -> Result<Result<Session, StartFault>, Fail> {
     let root = Name::read(alloc, ROOT)?;
-    let blank = Blank::new(1);
-    match start_over::<Brand>(alloc, desk, &root, blank) {
+    match start_on(alloc, desk, &root) {
         Err(StartFault::NoMemory) => Err(Fail::from(AllocError)),
         answer => Ok(answer),
     }
@@ -62,13 +66,17 @@ fn edit_over<L: Ledger>(session: &mut Session, op: &Op, blank: Blank) -> Result<
     session.edit(op, &mut steps)
 }
 
+fn edit_once(session: &mut Session, op: &Op) -> Result<(), EditFault> {
+    let blank = Blank::new(1);
+    edit_over::<Brand>(session, op, blank)
+}
+
 /// Makes the edits of a script, of which the last answers. Want of memory is handed on.
 fn edit(alloc: Global, session: &mut Session, script: &str) -> Result<Option<Refusal>, Fail> {
     let mut last = None;
     for command in &read_script(alloc, script.as_bytes())? {
         if let Command::Edit(op) = command {
-            let blank = Blank::new(1);
-            last = match edit_over::<Brand>(session, op, blank) {
+            last = match edit_once(session, op) {
                 Ok(()) => None,
                 Err(EditFault::Refused(refusal)) => Some(refusal),
                 Err(EditFault::NoMemory) => return Err(Fail::from(AllocError)),
@@ -88,7 +96,7 @@ fn burst(session: &mut Session, desk: &mut MemDesk) -> Result<Result<u32, DeskEr
 }
 
 /// The last answer to a script of edits of this root, and the bytes afterwards.
-#[derive(Debug, Drop)]
+#[derive(Drop)]
 struct Edited {
     answer: Option<Refusal>,
     bytes: Vec<u8>,
