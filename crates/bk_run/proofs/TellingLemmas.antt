@@ -34,6 +34,15 @@ asked_all [] asked is = is
 asked_all (command ∷ commands) [] is = elim is [ ]
 asked_all (command ∷ commands) (first ∷ asked) (is, are) = ap₂ (λ (c : Command) (cs : List Command). c ∷ cs) (asked_one command first is) (asked_all commands asked are)
 
+-- .. and each that is built asks something
+asks_one : (command : CommandOfCode) → IsCommandOf (command_of command) (asked_of command)
+asks_one (code.Edit (op.Text place from to value)) = refl
+asks_one code.Burst = refl
+
+pub asks_all : (commands : List CommandOfCode) → AreCommandsOf (map command_of commands) (map asked_of commands)
+asks_all [] = refl
+asks_all (command ∷ commands) = (asks_one command, asks_all commands)
+
 -- ---- texts
 
 -- each reply has a byte
@@ -265,6 +274,19 @@ stop_later start now first before whole rest steps step more crash parts so_far 
       where
         never : is.count ≡ 0 → ⊥
         never e = let some = some_text step.reply in omega (arith, le, some, e)
+
+-- a crash while a last text is told, behind all replies
+pub stop_last : (k : Kept) (start now : DiskState) (first : Book) (last : Session) (steps : List Step) (more : List ℕ) (crash : CrashState) → Stands k now last → now.told ≡ start.told ++ replies_text steps → saved_after first steps ≡ last.saved
+    → WhileTelling more now crash → IsOfOneBurst start first steps more crash
+stop_last k start now first last steps more crash stands told saved is = record {
+  whole = steps;
+  rest = [];
+  parts = sym (append-nil steps);
+  count = is.told.0;
+  told = is.told.1 ∙ ap (λ (l : List ℕ). l ++ take is.told.0 more) told ∙ append_assoc start.told (replies_text steps) (take is.told.0 more);
+  cut = tt;
+  recovers = inl (stands_recovers k now last crash.image stands is.image ∙ ap (λ (b : Book). Some b) (sym saved));
+}
 
 -- ---- the loop
 

@@ -1,10 +1,12 @@
 -- What is told of each command of a script; of this project. Each line ends in LF.
 --
---   session_command  what a command of a script asks of the session
---   AreCommands      the commands of a script, as those of the session
---   reply_text       the line that is told of a command
---   replies_text     those of commands in a row
---   is_refused       the line begins with `refused`
+--   IsCommandOf     what a command of a script asks of the session
+--   AreCommandsOf   the commands of a script, as those of the session
+--   reply_text      the line that is told of a command
+--   replies_text    those of commands in a row
+--   is_refusal      the line begins with `refused`
+--   any_refused     one of them does
+--   reply_of        the reply that one of the code is
 use Rattle.std.specs.Prelude.{◌≡◌, ℕ, List, [], ◌∷◌, ◌++◌, Bool, true, false, ◌||◌, codes}
 use Rattle.std.specs.Str.{chars}
 use Rattle.std.specs.Fmt.{decimal}

@@ -1,6 +1,7 @@
 -- What a crash at any point of a run leaves; of this project.
 --
---   saved_after    the book last saved after these steps
+--   saved_after    the book last saved after these steps; saved_next: after the next of them
+--   IsCut          a front of what is told next, which is not all of the next reply
 --   IsOfOneBurst   the files of one save are recovered, and what was told is a front of the output
 --   IsStopped      .. or nothing was told, and the files are as a crash at the start could have left them
 --   IsUntouched    the files are as a crash at the start could have left them

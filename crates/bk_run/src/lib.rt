@@ -13,7 +13,7 @@ mod stop;
 mod telling;
 
 pub use input::{InputFault, read_input};
-pub use laws::{start_stands, steps_exist, told_is_saved};
+pub use laws::{commands_ask, start_stands, steps_exist, told_is_saved};
 pub use stop::Stop;
 pub use telling::tell_replies;
 
