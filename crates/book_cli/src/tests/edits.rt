@@ -1,0 +1,240 @@
+use super::{HEAD, Want, check, over};
+use std::test::Fail;
+
+/// A root, a script, what is told before the tree, the tree behind its first two lines, and the root afterwards.
+type Edit = (
+    &'static str,
+    &'static str,
+    &'static str,
+    &'static str,
+    &'static str,
+);
+
+/// Each text that is edited is written anew, and every other byte stays. A range counts characters, and a place the nodes
+/// of the tree as it is then.
+const EDITS: &[Edit] = &[
+    (
+        "<a>a</a>",
+        "text /1/1 0 1 \"z\"\nburst",
+        "ok\nburst 1\n",
+        "  text \"z\" in book.xml\n",
+        "<a>z</a>",
+    ),
+    (
+        "<a>a&lt;b</a>",
+        "text /1/1 1 2 \">\"\nburst",
+        "ok\nburst 1\n",
+        "  text \"a>b\" in book.xml\n",
+        "<a>a&gt;b</a>",
+    ),
+    (
+        "<a>x&#38;y<i/>p&#113;r</a >\n",
+        "text /1/3 1 2 \"Q\"\nburst",
+        "ok\nburst 1\n",
+        "  text \"x&y\" in book.xml\n  element i in book.xml\n  text \"pQr\" in book.xml\n",
+        "<a>x&#38;y<i/>pQr</a >\n",
+    ),
+    (
+        "<a>é€😀z</a>",
+        "text /1/1 1 3 \"-\"\nburst",
+        "ok\nburst 1\n",
+        "  text \"é-z\" in book.xml\n",
+        "<a>é-z</a>",
+    ),
+    (
+        "<a>x</a>",
+        "text /1/1 0 1 \"\\\"\\\\\\n\\t\\r\\u{41}&<>\\u{feff}]\"\nburst",
+        "ok\nburst 1\n",
+        "  text \"\\\"\\\\\\n\\t\\rA&<>\u{FEFF}]\" in book.xml\n",
+        "<a>\"\\\n\t&#13;A&amp;&lt;&gt;&#65279;&#93;</a>",
+    ),
+    (
+        "<a>x]</a>",
+        "text /1/1 0 0 \"\\n\\n\"\ntext /1/1 4 4 \"y\"\nburst",
+        "ok\nok\nburst 1\n",
+        "  text \"\\n\\nx]y\" in book.xml\n",
+        "<a>&#10;\nx]y</a>",
+    ),
+    (
+        "<a>x<b/>y</a>",
+        "text /1/1 0 1 \"\"\ntext /1/2 0 1 \"z\"\nburst",
+        "ok\nok\nburst 1\n",
+        "  element b in book.xml\n  text \"z\" in book.xml\n",
+        "<a><b/>z</a>",
+    ),
+    (
+        "<a>x<b>yz</b></a>",
+        "text /1/2/1 1 1 \"-\"\ntext /1/1 1 1 \"x\"\nburst",
+        "ok\nok\nburst 1\n",
+        "  text \"xx\" in book.xml\n  element b in book.xml\n    text \"y-z\" in book.xml\n",
+        "<a>xx<b>y-z</b></a>",
+    ),
+    (
+        "<a>x</a>",
+        "text /1/1 0 1 \"\"\nburst",
+        "ok\nburst 1\n",
+        "",
+        "<a></a>",
+    ),
+];
+
+/// What is not saved is in the tree alone; a file is saved where it differs from what was last saved.
+const SAVES: &[Edit] = &[
+    (
+        "<a>a</a>",
+        "text /1/1 0 1 \"z\"",
+        "ok\n",
+        "  text \"z\" in book.xml\n",
+        "<a>a</a>",
+    ),
+    (
+        "<a>a</a>",
+        "burst",
+        "burst 0\n",
+        "  text \"a\" in book.xml\n",
+        "<a>a</a>",
+    ),
+    (
+        "<a>a</a>",
+        "text /1/1 0 1 \"a\"\nburst",
+        "ok\nburst 0\n",
+        "  text \"a\" in book.xml\n",
+        "<a>a</a>",
+    ),
+    (
+        "<a>&#97;</a>",
+        "text /1/1 0 1 \"a\"\nburst",
+        "ok\nburst 1\n",
+        "  text \"a\" in book.xml\n",
+        "<a>a</a>",
+    ),
+    (
+        "<a>a</a>",
+        "text /1/1 0 1 \"z\"\ntext /1/1 0 1 \"a\"\nburst\nburst",
+        "ok\nok\nburst 0\nburst 0\n",
+        "  text \"a\" in book.xml\n",
+        "<a>a</a>",
+    ),
+    (
+        "<a>a</a>",
+        "text /1/1 0 1 \"y\"\nburst\ntext /1/1 0 1 \"z\"\nburst\nburst\ntext /1/1 0 1 \"-\"",
+        "ok\nburst 1\nok\nburst 1\nburst 0\nok\n",
+        "  text \"-\" in book.xml\n",
+        "<a>z</a>",
+    ),
+    (
+        "<a>a</a>",
+        "text /1/1 0 1 \"z\"\nburst\ntext /1/1 0 1 \"a\"\nburst",
+        "ok\nburst 1\nok\nburst 1\n",
+        "  text \"a\" in book.xml\n",
+        "<a>a</a>",
+    ),
+];
+
+/// Edits of `<a>xyz<b/></a>` that are refused, with the first test that refuses each: a place that names no node, one that
+/// names no text, a range that is not within it, and a character that no document may hold.
+const REFUSED: &[(&str, &str)] = &[
+    ("text /2 0 0 \"\"", "refused NoSuchPlace\n"),
+    ("text /1/3 0 0 \"\"", "refused NoSuchPlace\n"),
+    ("text /1/1/1 0 0 \"\"", "refused NoSuchPlace\n"),
+    ("text /1/9 5 0 \"\\u{0}\"", "refused NoSuchPlace\n"),
+    ("text /4294967295 0 0 \"\"", "refused NoSuchPlace\n"),
+    ("text /1 0 0 \"x\"", "refused WrongKind\n"),
+    ("text /1/2 0 0 \"\"", "refused WrongKind\n"),
+    ("text /1 5 0 \"\\u{0}\"", "refused WrongKind\n"),
+    ("text /1/1 2 1 \"\"", "refused BadRange\n"),
+    ("text /1/1 0 4 \"\"", "refused BadRange\n"),
+    ("text /1/1 4 4 \"\"", "refused BadRange\n"),
+    ("text /1/1 2 1 \"\\u{0}\"", "refused BadRange\n"),
+    ("text /1/1 0 4294967295 \"\\u{0}\"", "refused BadRange\n"),
+    ("text /1/1 0 3 \"\\u{0}\"", "refused BadText\n"),
+    ("text /1/1 3 3 \"x\\u{B}\"", "refused BadText\n"),
+    ("text /1/1 3 3 \"x\\u{FFFE}\"", "refused BadText\n"),
+    ("text /1/1 1 2 \"\\u{FFFF}y\"", "refused BadText\n"),
+];
+
+#[test]
+fn an_edit_changes_the_bytes_of_its_text_alone(rt: HostRuntime) -> Result<(), Fail> {
+    for (root, script, replies, tree, after) in EDITS {
+        let mut calls = 12;
+        for line in script.split('\n') {
+            calls += if line.is_empty() { 0 } else { 1 };
+        }
+        let want = Want {
+            status: 0,
+            told: &[replies, HEAD, tree],
+            calls,
+            root: Some(after.as_bytes()),
+        };
+        check(&rt, rt.alloc(), &over(root, script), &want, script)?;
+    }
+    Ok(())
+}
+
+// A save that writes makes eight calls more than one that does not.
+#[test]
+fn a_file_is_saved_where_it_differs(rt: HostRuntime) -> Result<(), Fail> {
+    for ((root, script, replies, tree, after), calls) in SAVES.iter().zip([5, 5, 6, 14, 8, 26, 24]) {
+        let want = Want {
+            status: 0,
+            told: &[replies, HEAD, tree],
+            calls,
+            root: Some(after.as_bytes()),
+        };
+        check(&rt, rt.alloc(), &over(root, script), &want, script)?;
+    }
+    Ok(())
+}
+
+// The session goes on: an edit behind it is made and saved.
+#[test]
+fn an_edit_is_refused_by_the_first_test_that_holds(rt: HostRuntime) -> Result<(), Fail> {
+    let alloc = rt.alloc();
+    let root = "<a>xyz<b/></a>";
+    for (line, reply) in REFUSED {
+        let alone = Want {
+            status: 1,
+            told: &[
+                reply,
+                HEAD,
+                "  text \"xyz\" in book.xml\n  element b in book.xml\n",
+            ],
+            calls: 5,
+            root: Some(root.as_bytes()),
+        };
+        check(&rt, alloc, &over(root, line), &alone, line)?;
+        let script = format!(in alloc; "{line}\ntext /1/1 0 1 \"X\"\nburst\n")?;
+        let followed = Want {
+            status: 1,
+            told: &[
+                reply,
+                "ok\nburst 1\n",
+                HEAD,
+                "  text \"Xyz\" in book.xml\n  element b in book.xml\n",
+            ],
+            calls: 15,
+            root: Some(b"<a>Xyz<b/></a>"),
+        };
+        check(&rt, alloc, &over(root, script.as_str()), &followed, line)?;
+    }
+    Ok(())
+}
+
+#[test]
+fn each_refusal_has_its_reply(rt: HostRuntime) -> Result<(), Fail> {
+    let script = "text /1 0 0 \"x\"\ntext /1/9 0 0 \"x\"\ntext /1/1 2 1 \"x\"\ntext /1/1 0 0 \"\\u{1}\"\nburst";
+    let replies =
+        "refused WrongKind\nrefused NoSuchPlace\nrefused BadRange\nrefused BadText\nburst 0\n";
+    let case = over("<a>x<b><c/></b></a>", script);
+    let want = Want {
+        status: 1,
+        told: &[
+            replies,
+            HEAD,
+            "  text \"x\" in book.xml\n  element b in book.xml\n    element c in book.xml\n",
+        ],
+        calls: 9,
+        root: case.root,
+    };
+    check(&rt, rt.alloc(), &case, &want, script)
+}
