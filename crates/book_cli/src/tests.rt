@@ -55,7 +55,7 @@ struct Want<'a> {
 
 /// What a run answered, and the disk afterwards.
 #[derive(Debug, Drop)]
-struct Ran {
+struct Outcome {
     status: u8,
     desk: MemDesk,
 }
@@ -161,12 +161,12 @@ fn run_words<D: Desk, S: Source>(
 }
 
 /// A run of a case.
-fn ran(alloc: Global, case: &Case) -> Result<Ran, Fail> {
+fn ran(alloc: Global, case: &Case) -> Result<Outcome, Fail> {
     let mut desk = desk_of(alloc, case)?;
     let lost_reads = Vec::from_slice(alloc, case.lost_reads)?;
     let mut script = MemSource::new(copy(alloc, case.script)?, case.piece.max(1), lost_reads);
     let status = run_words(alloc, case.words, &mut script, &mut desk)?;
-    Ok(Ran { status, desk })
+    Ok(Outcome { status, desk })
 }
 
 /// A further run on book.xml over the same disk, without a command: its status.
@@ -176,19 +176,13 @@ fn opened_again(alloc: Global, desk: &mut MemDesk) -> Result<u8, Fail> {
 }
 
 /// Whether a run answers what is wanted; where it does not, the test ends there, and `at` is printed.
-fn check(
-    rt: &impl Abort,
-    alloc: Global,
-    case: &Case,
-    want: &Want,
-    at: &str,
-) -> Result<(), Fail> {
-    let ran = ran(alloc, case)?;
+fn check(rt: &impl Abort, alloc: Global, case: &Case, want: &Want, at: &str) -> Result<(), Fail> {
+    let outcome = ran(alloc, case)?;
     let told = joined(alloc, want.told)?;
     let root = book_file(alloc, "book.xml")?;
-    assert_eq!(rt; ran.status, want.status, "at {at}");
-    assert!(rt; ran.desk.told() == told.as_slice(), "told, at {at}");
-    assert_eq!(rt; ran.desk.calls(), want.calls, "at {at}");
-    assert!(rt; ran.desk.file(&root) == want.root, "book.xml, at {at}");
+    assert_eq!(rt; outcome.status, want.status, "at {at}");
+    assert!(rt; outcome.desk.told() == told.as_slice(), "told, at {at}");
+    assert_eq!(rt; outcome.desk.calls(), want.calls, "at {at}");
+    assert!(rt; outcome.desk.file(&root) == want.root, "book.xml, at {at}");
     Ok(())
 }

@@ -1,134 +1,158 @@
 use super::{HEAD, Want, check, over};
+use std::alloc::Global;
+use std::process::Abort;
 use std::test::Fail;
 
-/// A root, a script, what is told before the tree, the tree behind its first two lines, and the root afterwards.
-type Edit = (
-    &'static str,
-    &'static str,
-    &'static str,
-    &'static str,
-    &'static str,
-);
+/// A run that ends well.
+#[derive(Clone, Copy)]
+struct Edit {
+    root: &'static str,
+    script: &'static str,
+    /// What is told before the tree.
+    replies: &'static str,
+    /// The tree behind its first two lines.
+    tree: &'static str,
+    /// The root afterwards.
+    after: &'static str,
+    /// How many calls of the disk are made.
+    calls: u64,
+}
 
 /// Each text that is edited is written anew, and every other byte stays. A range counts characters, and a place the nodes
 /// of the tree as it is then.
 const EDITS: &[Edit] = &[
-    (
-        "<a>a</a>",
-        "text /1/1 0 1 \"z\"\nburst",
-        "ok\nburst 1\n",
-        "  text \"z\" in book.xml\n",
-        "<a>z</a>",
-    ),
-    (
-        "<a>a&lt;b</a>",
-        "text /1/1 1 2 \">\"\nburst",
-        "ok\nburst 1\n",
-        "  text \"a>b\" in book.xml\n",
-        "<a>a&gt;b</a>",
-    ),
-    (
-        "<a>x&#38;y<i/>p&#113;r</a >\n",
-        "text /1/3 1 2 \"Q\"\nburst",
-        "ok\nburst 1\n",
-        "  text \"x&y\" in book.xml\n  element i in book.xml\n  text \"pQr\" in book.xml\n",
-        "<a>x&#38;y<i/>pQr</a >\n",
-    ),
-    (
-        "<a>é€😀z</a>",
-        "text /1/1 1 3 \"-\"\nburst",
-        "ok\nburst 1\n",
-        "  text \"é-z\" in book.xml\n",
-        "<a>é-z</a>",
-    ),
-    (
-        "<a>x</a>",
-        "text /1/1 0 1 \"\\\"\\\\\\n\\t\\r\\u{41}&<>\\u{feff}]\"\nburst",
-        "ok\nburst 1\n",
-        "  text \"\\\"\\\\\\n\\t\\rA&<>\u{FEFF}]\" in book.xml\n",
-        "<a>\"\\\n\t&#13;A&amp;&lt;&gt;&#65279;&#93;</a>",
-    ),
-    (
-        "<a>x]</a>",
-        "text /1/1 0 0 \"\\n\\n\"\ntext /1/1 4 4 \"y\"\nburst",
-        "ok\nok\nburst 1\n",
-        "  text \"\\n\\nx]y\" in book.xml\n",
-        "<a>&#10;\nx]y</a>",
-    ),
-    (
-        "<a>x<b/>y</a>",
-        "text /1/1 0 1 \"\"\ntext /1/2 0 1 \"z\"\nburst",
-        "ok\nok\nburst 1\n",
-        "  element b in book.xml\n  text \"z\" in book.xml\n",
-        "<a><b/>z</a>",
-    ),
-    (
-        "<a>x<b>yz</b></a>",
-        "text /1/2/1 1 1 \"-\"\ntext /1/1 1 1 \"x\"\nburst",
-        "ok\nok\nburst 1\n",
-        "  text \"xx\" in book.xml\n  element b in book.xml\n    text \"y-z\" in book.xml\n",
-        "<a>xx<b>y-z</b></a>",
-    ),
-    (
-        "<a>x</a>",
-        "text /1/1 0 1 \"\"\nburst",
-        "ok\nburst 1\n",
-        "",
-        "<a></a>",
-    ),
+    Edit {
+        root: "<a>a</a>",
+        script: "text /1/1 0 1 \"z\"\nburst",
+        replies: "ok\nburst 1\n",
+        tree: "  text \"z\" in book.xml\n",
+        after: "<a>z</a>",
+        calls: 14,
+    },
+    Edit {
+        root: "<a>a&lt;b</a>",
+        script: "text /1/1 1 2 \">\"\nburst",
+        replies: "ok\nburst 1\n",
+        tree: "  text \"a>b\" in book.xml\n",
+        after: "<a>a&gt;b</a>",
+        calls: 14,
+    },
+    Edit {
+        root: "<a>x&#38;y<i/>p&#113;r</a >\n",
+        script: "text /1/3 1 2 \"Q\"\nburst",
+        replies: "ok\nburst 1\n",
+        tree: "  text \"x&y\" in book.xml\n  element i in book.xml\n  text \"pQr\" in book.xml\n",
+        after: "<a>x&#38;y<i/>pQr</a >\n",
+        calls: 14,
+    },
+    Edit {
+        root: "<a>é€😀z</a>",
+        script: "text /1/1 1 3 \"-\"\nburst",
+        replies: "ok\nburst 1\n",
+        tree: "  text \"é-z\" in book.xml\n",
+        after: "<a>é-z</a>",
+        calls: 14,
+    },
+    Edit {
+        root: "<a>x</a>",
+        script: "text /1/1 0 1 \"\\\"\\\\\\n\\t\\r\\u{41}&<>\\u{feff}]\"\nburst",
+        replies: "ok\nburst 1\n",
+        tree: "  text \"\\\"\\\\\\n\\t\\rA&<>\u{FEFF}]\" in book.xml\n",
+        after: "<a>\"\\\n\t&#13;A&amp;&lt;&gt;&#65279;&#93;</a>",
+        calls: 14,
+    },
+    Edit {
+        root: "<a>x]</a>",
+        script: "text /1/1 0 0 \"\\n\\n\"\ntext /1/1 4 4 \"y\"\nburst",
+        replies: "ok\nok\nburst 1\n",
+        tree: "  text \"\\n\\nx]y\" in book.xml\n",
+        after: "<a>&#10;\nx]y</a>",
+        calls: 15,
+    },
+    Edit {
+        root: "<a>x<b/>y</a>",
+        script: "text /1/1 0 1 \"\"\ntext /1/2 0 1 \"z\"\nburst",
+        replies: "ok\nok\nburst 1\n",
+        tree: "  element b in book.xml\n  text \"z\" in book.xml\n",
+        after: "<a><b/>z</a>",
+        calls: 15,
+    },
+    Edit {
+        root: "<a>x<b>yz</b></a>",
+        script: "text /1/2/1 1 1 \"-\"\ntext /1/1 1 1 \"x\"\nburst",
+        replies: "ok\nok\nburst 1\n",
+        tree: "  text \"xx\" in book.xml\n  element b in book.xml\n    text \"y-z\" in book.xml\n",
+        after: "<a>xx<b>y-z</b></a>",
+        calls: 15,
+    },
+    Edit {
+        root: "<a>x</a>",
+        script: "text /1/1 0 1 \"\"\nburst",
+        replies: "ok\nburst 1\n",
+        tree: "",
+        after: "<a></a>",
+        calls: 14,
+    },
 ];
 
 /// What is not saved is in the tree alone; a file is saved where it differs from what was last saved.
 const SAVES: &[Edit] = &[
-    (
-        "<a>a</a>",
-        "text /1/1 0 1 \"z\"",
-        "ok\n",
-        "  text \"z\" in book.xml\n",
-        "<a>a</a>",
-    ),
-    (
-        "<a>a</a>",
-        "burst",
-        "burst 0\n",
-        "  text \"a\" in book.xml\n",
-        "<a>a</a>",
-    ),
-    (
-        "<a>a</a>",
-        "text /1/1 0 1 \"a\"\nburst",
-        "ok\nburst 0\n",
-        "  text \"a\" in book.xml\n",
-        "<a>a</a>",
-    ),
-    (
-        "<a>&#97;</a>",
-        "text /1/1 0 1 \"a\"\nburst",
-        "ok\nburst 1\n",
-        "  text \"a\" in book.xml\n",
-        "<a>a</a>",
-    ),
-    (
-        "<a>a</a>",
-        "text /1/1 0 1 \"z\"\ntext /1/1 0 1 \"a\"\nburst\nburst",
-        "ok\nok\nburst 0\nburst 0\n",
-        "  text \"a\" in book.xml\n",
-        "<a>a</a>",
-    ),
-    (
-        "<a>a</a>",
-        "text /1/1 0 1 \"y\"\nburst\ntext /1/1 0 1 \"z\"\nburst\nburst\ntext /1/1 0 1 \"-\"",
-        "ok\nburst 1\nok\nburst 1\nburst 0\nok\n",
-        "  text \"-\" in book.xml\n",
-        "<a>z</a>",
-    ),
-    (
-        "<a>a</a>",
-        "text /1/1 0 1 \"z\"\nburst\ntext /1/1 0 1 \"a\"\nburst",
-        "ok\nburst 1\nok\nburst 1\n",
-        "  text \"a\" in book.xml\n",
-        "<a>a</a>",
-    ),
+    Edit {
+        root: "<a>a</a>",
+        script: "text /1/1 0 1 \"z\"",
+        replies: "ok\n",
+        tree: "  text \"z\" in book.xml\n",
+        after: "<a>a</a>",
+        calls: 5,
+    },
+    Edit {
+        root: "<a>a</a>",
+        script: "burst",
+        replies: "burst 0\n",
+        tree: "  text \"a\" in book.xml\n",
+        after: "<a>a</a>",
+        calls: 5,
+    },
+    Edit {
+        root: "<a>a</a>",
+        script: "text /1/1 0 1 \"a\"\nburst",
+        replies: "ok\nburst 0\n",
+        tree: "  text \"a\" in book.xml\n",
+        after: "<a>a</a>",
+        calls: 6,
+    },
+    Edit {
+        root: "<a>&#97;</a>",
+        script: "text /1/1 0 1 \"a\"\nburst",
+        replies: "ok\nburst 1\n",
+        tree: "  text \"a\" in book.xml\n",
+        after: "<a>a</a>",
+        calls: 14,
+    },
+    Edit {
+        root: "<a>a</a>",
+        script: "text /1/1 0 1 \"z\"\ntext /1/1 0 1 \"a\"\nburst\nburst",
+        replies: "ok\nok\nburst 0\nburst 0\n",
+        tree: "  text \"a\" in book.xml\n",
+        after: "<a>a</a>",
+        calls: 8,
+    },
+    Edit {
+        root: "<a>a</a>",
+        script: "text /1/1 0 1 \"y\"\nburst\ntext /1/1 0 1 \"z\"\nburst\nburst\ntext /1/1 0 1 \"-\"",
+        replies: "ok\nburst 1\nok\nburst 1\nburst 0\nok\n",
+        tree: "  text \"-\" in book.xml\n",
+        after: "<a>z</a>",
+        calls: 26,
+    },
+    Edit {
+        root: "<a>a</a>",
+        script: "text /1/1 0 1 \"z\"\nburst\ntext /1/1 0 1 \"a\"\nburst",
+        replies: "ok\nburst 1\nok\nburst 1\n",
+        tree: "  text \"a\" in book.xml\n",
+        after: "<a>a</a>",
+        calls: 24,
+    },
 ];
 
 /// Edits of `<a>xyz<b/></a>` that are refused, with the first test that refuses each: a place that names no node, one that
@@ -153,37 +177,28 @@ const REFUSED: &[(&str, &str)] = &[
     ("text /1/1 1 2 \"\\u{FFFF}y\"", "refused BadText\n"),
 ];
 
-#[test]
-fn an_edit_changes_the_bytes_of_its_text_alone(rt: HostRuntime) -> Result<(), Fail> {
-    for (root, script, replies, tree, after) in EDITS {
-        let mut calls = 12;
-        for line in script.split('\n') {
-            calls += if line.is_empty() { 0 } else { 1 };
-        }
+fn check_edits(rt: &impl Abort, alloc: Global, edits: &[Edit]) -> Result<(), Fail> {
+    for edit in edits {
         let want = Want {
             status: 0,
-            told: &[replies, HEAD, tree],
-            calls,
-            root: Some(after.as_bytes()),
+            told: &[edit.replies, HEAD, edit.tree],
+            calls: edit.calls,
+            root: Some(edit.after.as_bytes()),
         };
-        check(&rt, rt.alloc(), &over(root, script), &want, script)?;
+        check(rt, alloc, &over(edit.root, edit.script), &want, edit.script)?;
     }
     Ok(())
+}
+
+#[test]
+fn an_edit_changes_the_bytes_of_its_text_alone(rt: HostRuntime) -> Result<(), Fail> {
+    check_edits(&rt, rt.alloc(), EDITS)
 }
 
 // A save that writes makes eight calls more than one that does not.
 #[test]
 fn a_file_is_saved_where_it_differs(rt: HostRuntime) -> Result<(), Fail> {
-    for ((root, script, replies, tree, after), calls) in SAVES.iter().zip([5, 5, 6, 14, 8, 26, 24]) {
-        let want = Want {
-            status: 0,
-            told: &[replies, HEAD, tree],
-            calls,
-            root: Some(after.as_bytes()),
-        };
-        check(&rt, rt.alloc(), &over(root, script), &want, script)?;
-    }
-    Ok(())
+    check_edits(&rt, rt.alloc(), SAVES)
 }
 
 // The session goes on: an edit behind it is made and saved.
@@ -222,7 +237,8 @@ fn an_edit_is_refused_by_the_first_test_that_holds(rt: HostRuntime) -> Result<()
 
 #[test]
 fn each_refusal_has_its_reply(rt: HostRuntime) -> Result<(), Fail> {
-    let script = "text /1 0 0 \"x\"\ntext /1/9 0 0 \"x\"\ntext /1/1 2 1 \"x\"\ntext /1/1 0 0 \"\\u{1}\"\nburst";
+    let script =
+        "text /1 0 0 \"x\"\ntext /1/9 0 0 \"x\"\ntext /1/1 2 1 \"x\"\ntext /1/1 0 0 \"\\u{1}\"\nburst";
     let replies =
         "refused WrongKind\nrefused NoSuchPlace\nrefused BadRange\nrefused BadText\nburst 0\n";
     let case = over("<a>x<b><c/></b></a>", script);

@@ -16,25 +16,25 @@ fn check_fault(
     roots: &[&[u8]],
 ) -> Result<(), Fail> {
     let lost_calls = &[call];
-    let mut ran = ran(
+    let mut outcome = ran(
         alloc,
         &Case {
             lost_calls,
             ..*case
         },
     )?;
-    assert_eq!(rt; ran.status, 6, "call {call}");
-    assert_eq!(rt; ran.desk.calls(), call);
-    assert!(rt; told.starts_with(ran.desk.told()), "call {call}");
-    assert!(rt; ran.desk.told().len() < told.len(), "call {call}");
-    assert_eq!(rt; opened_again(alloc, &mut ran.desk)?, 0, "call {call}");
+    assert_eq!(rt; outcome.status, 6, "call {call}");
+    assert_eq!(rt; outcome.desk.calls(), call);
+    assert!(rt; told.starts_with(outcome.desk.told()), "call {call}");
+    assert!(rt; outcome.desk.told().len() < told.len(), "call {call}");
+    assert_eq!(rt; opened_again(alloc, &mut outcome.desk)?, 0, "call {call}");
     let file = book_file(alloc, "book.xml")?;
     let mut is_one = false;
     for root in roots {
-        is_one = is_one || ran.desk.file(&file) == Some(*root);
+        is_one = is_one || outcome.desk.file(&file) == Some(*root);
     }
     assert!(rt; is_one, "call {call}");
-    assert!(rt; ran.desk.file(&DeskName::Gate).is_none(), "call {call}");
+    assert!(rt; outcome.desk.file(&DeskName::Gate).is_none(), "call {call}");
     Ok(())
 }
 
@@ -42,7 +42,8 @@ fn check_fault(
 #[test]
 fn a_run_ends_where_a_call_fails(rt: HostRuntime) -> Result<(), Fail> {
     let alloc = rt.alloc();
-    let script = "text /1/1 0 1 \"y\"\ntext /1 0 0 \"\"\nburst\nburst\ntext /1/1 0 1 \"z\"\nburst\n";
+    let script =
+        "text /1/1 0 1 \"y\"\ntext /1 0 0 \"\"\nburst\nburst\ntext /1/1 0 1 \"z\"\nburst\n";
     let told = [
         "ok\nrefused WrongKind\nburst 1\nburst 0\nok\nburst 1\n",
         HEAD,
@@ -102,7 +103,13 @@ fn a_recovery_that_fails_is_made_by_the_next_run(rt: HostRuntime) -> Result<(), 
 fn a_line_that_cannot_be_told_ends_the_run(rt: HostRuntime) -> Result<(), Fail> {
     let plain = over("<a>x</a>", "");
     for (case, call) in [
-        (Case { words: &[], ..plain }, 1),
+        (
+            Case {
+                words: &[],
+                ..plain
+            },
+            1,
+        ),
         (
             Case {
                 script: b"undo",
@@ -117,7 +124,13 @@ fn a_line_that_cannot_be_told_ends_the_run(rt: HostRuntime) -> Result<(), Fail> 
             },
             1,
         ),
-        (Case { root: None, ..plain }, 4),
+        (
+            Case {
+                root: None,
+                ..plain
+            },
+            4,
+        ),
         (
             Case {
                 root: Some(b"<a>"),

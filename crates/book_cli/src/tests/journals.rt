@@ -4,8 +4,7 @@ use bk_desk::{DeskName, MemDesk};
 use std::test::Fail;
 
 /// A save of c.xml with the bytes `<c>new</c>`: 34 bytes.
-const JOURNAL: &[u8] =
-    b"BKBURST1\x00\x00\x00\x01\x01\x00\x05c.xml\x00\x00\x00\x0A<c>new</c>";
+const JOURNAL: &[u8] = b"BKBURST1\x00\x00\x00\x01\x01\x00\x05c.xml\x00\x00\x00\x0A<c>new</c>";
 
 /// Files that are no journal.
 const DAMAGED: &[&[u8]] = &[
@@ -70,7 +69,8 @@ fn a_marker_that_is_not_open_is_ignored(rt: HostRuntime) -> Result<(), Fail> {
 }
 
 /// A journal that removes a.xml, writes book.xml with the bytes `<a>n</a>`, and makes d/e.xml with none.
-const SEVERAL: &[u8] = b"BKBURST1\x00\x00\x00\x03\x00\x00\x05a.xml\x01\x00\x08book.xml\x00\x00\x00\x08<a>n</a>\x01\x00\x07d/e.xml\x00\x00\x00\x00";
+const SEVERAL: &[u8] =
+    b"BKBURST1\x00\x00\x00\x03\x00\x00\x05a.xml\x01\x00\x08book.xml\x00\x00\x00\x08<a>n</a>\x01\x00\x07d/e.xml\x00\x00\x00\x00";
 
 // Calls: sync, read the marker, read the journal, remove, write, write, sync, remove the marker, sync; then the book opens.
 #[test]

@@ -66,7 +66,13 @@ fn level_128_opens_and_129_does_not(rt: HostRuntime) -> Result<(), Fail> {
     let alloc = rt.alloc();
     let (greatest, greater) = (nested(alloc, 128)?, nested(alloc, 129)?);
     let tree = nested_tree(alloc, 128)?;
-    check_limit(&rt, alloc, greatest.as_str(), &[tree.as_str()], greater.as_str())
+    check_limit(
+        &rt,
+        alloc,
+        greatest.as_str(),
+        &[tree.as_str()],
+        greater.as_str(),
+    )
 }
 
 #[test]
@@ -85,7 +91,13 @@ fn a_million_nodes_open_and_one_more_do_not(rt: HostRuntime) -> Result<(), Fail>
     let lines = repeated(alloc, "", "  element b in book.xml\n", 999_999, "")?;
     let greatest = repeated(alloc, "<a>", "<b/>", 999_999, "</a>")?;
     let greater = repeated(alloc, "<a>", "<b/>", 1_000_000, "</a>")?;
-    check_limit(&rt, alloc, greatest.as_str(), &[HEAD, lines.as_str()], greater.as_str())
+    check_limit(
+        &rt,
+        alloc,
+        greatest.as_str(),
+        &[HEAD, lines.as_str()],
+        greater.as_str(),
+    )
 }
 
 // `<a>x<b c='`, 4,194,281 bytes of a value, and `'>z</b></a>` are 4,194,302 bytes: two more are the most. An escape counts
@@ -96,7 +108,8 @@ fn an_edit_leaves_at_most_4194304_bytes(rt: HostRuntime) -> Result<(), Fail> {
     let value = repeated(alloc, "", "y", 4_194_281, "")?;
     let root = repeated(alloc, "<a>x<b c='", value.as_str(), 1, "'>z</b></a>")?;
     let edited = repeated(alloc, "<a>xyz<b c='", value.as_str(), 1, "'>z</b></a>")?;
-    let script = "text /1/1 1 1 \"xyz\"\ntext /1/1 1 1 \"&\"\ntext /1/1 0 1 \"\\u{0}xyz\"\ntext /1/1 1 1 \"yz\"\nburst\n";
+    let script =
+        "text /1/1 1 1 \"xyz\"\ntext /1/1 1 1 \"&\"\ntext /1/1 0 1 \"\\u{0}xyz\"\ntext /1/1 1 1 \"yz\"\nburst\n";
     let replies = "refused TooLarge\nrefused TooLarge\nrefused BadText\nok\nburst 1\n";
     let case = over(root.as_str(), script);
     let want = Want {

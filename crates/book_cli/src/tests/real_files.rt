@@ -1,10 +1,8 @@
 //! Files of the current folder.
-use super::{HEAD, book_file, joined, run_words};
+use super::{book_file, joined, run_words};
 use crate::real::RealDesk;
 use bk_desk::{Desk, DeskName, Got, MemSource};
-use std::alloc::Global;
 use std::io;
-use std::process::Abort;
 use std::test::Fail;
 
 /// Whether a read gives these bytes.
@@ -32,5 +30,46 @@ fn real_files_are_written_and_read_back(rt: HostRuntime) -> Result<(), Fail> {
     assert!(rt; desk.write_file(&folder, b"x").is_err() && desk.write_file(&below, b"x").is_err());
     assert!(rt; desk.remove(&file).is_ok() && desk.remove(&file).is_ok() && desk.sync().is_ok());
     assert!(rt; matches!(desk.read(&file, 4), Ok(Got::Absent)));
+    Ok(())
+}
+
+/// A run on a file of the current folder, and what it told.
+fn told_of(rt: &HostRuntime, word: &str, script: &str) -> Result<(u8, Vec<u8>), Fail> {
+    let alloc = rt.alloc();
+    let mut told = Vec::new(alloc);
+    let mut desk = RealDesk::new(rt, &mut told, alloc);
+    let bytes = Vec::from_slice(alloc, script.as_bytes())?;
+    let mut source = MemSource::new(bytes, 4096, Vec::new(alloc));
+    let status = run_words(alloc, &[word], &mut source, &mut desk)?;
+    drop(desk);
+    Ok((status, told))
+}
+
+// A second run finds what the first one saved, and no open marker.
+#[test]
+fn a_run_saves_a_real_file(rt: HostRuntime) -> Result<(), Fail> {
+    let alloc = rt.alloc();
+    let word = "real-run-test.xml";
+    let file = book_file(alloc, word)?;
+    let mut desk = RealDesk::new(&rt, io::writer(&rt), alloc);
+    assert!(rt; desk.write_file(&file, b"<a>old</a>").is_ok() && desk.sync().is_ok());
+    let tree =
+        "element a in real-run-test.xml\n  base file:///book/real-run-test.xml\n  text \"new\" in real-run-test.xml\n";
+    for (script, replies) in [
+        ("text /1/1 0 3 \"new\"\nburst\n", "ok\nburst 1\n"),
+        ("burst\n", "burst 0\n"),
+        ("", ""),
+    ] {
+        let (status, told) = told_of(&rt, word, script)?;
+        assert_eq!(rt; status, 0, "at {script}");
+        assert!(rt; told == joined(alloc, &[replies, tree])?, "at {script}");
+        assert!(rt; reads(&mut desk, &file, 10, b"<a>new</a>"), "at {script}");
+        assert!(rt;
+            matches!(desk.read(&DeskName::Gate, 4), Ok(Got::Absent)),
+            "at {script}"
+        );
+    }
+    assert!(rt; desk.remove(&file).is_ok() && desk.remove(&DeskName::Journal).is_ok());
+    assert!(rt; desk.sync().is_ok());
     Ok(())
 }

@@ -1,5 +1,5 @@
 //! A run that is stopped after each of its calls of the disk, and a second run over what is left.
-use super::{Case, HEAD, Ran, Want, book_file, check, copy, joined, opened_again, over, ran};
+use super::{Case, HEAD, Outcome, Want, book_file, check, copy, joined, opened_again, over, ran};
 use bk_desk::{DeskName, Left, MemDesk};
 use std::alloc::Global;
 use std::process::Abort;
@@ -7,15 +7,17 @@ use std::test::Fail;
 use xt_table::Seq;
 
 const OLD: &str = "<a>a</a>";
+
 const MIDDLE: &str = "<a>y</a>";
+
 const NEW: &str = "<a>z</a>";
 
 const ONE_SAVE: &str = "text /1/1 0 1 \"z\"\nburst\n";
+
 const TWO_SAVES: &str = "text /1/1 0 1 \"y\"\nburst\ntext /1/1 0 1 \"z\"\nburst\n";
 
 /// The journal of a save of book.xml with the bytes `<a>z</a>`.
-const JOURNAL: &[u8] =
-    b"BKBURST1\x00\x00\x00\x01\x01\x00\x08book.xml\x00\x00\x00\x08<a>z</a>";
+const JOURNAL: &[u8] = b"BKBURST1\x00\x00\x00\x01\x01\x00\x08book.xml\x00\x00\x00\x08<a>z</a>";
 
 /// From this number of calls on a stop leaves this root, where the commit marker is left closed and where it is left open.
 #[derive(Clone, Copy)]
@@ -193,7 +195,10 @@ fn opens(
     let file = book_file(alloc, "book.xml")?;
     assert_eq!(rt; status, 0, "after {calls} calls");
     assert!(rt; stopped.told() == tree.as_slice(), "after {calls} calls");
-    assert!(rt; stopped.file(&file) == Some(root.as_bytes()), "after {calls} calls");
+    assert!(rt;
+        stopped.file(&file) == Some(root.as_bytes()),
+        "after {calls} calls"
+    );
     assert!(rt; gate != Some(b"OPEN".as_slice()), "after {calls} calls");
     Ok(())
 }
@@ -250,7 +255,7 @@ fn a_save_makes_eight_calls(rt: HostRuntime) -> Result<(), Fail> {
         root: Some(NEW.as_bytes()),
     };
     check(&rt, alloc, &case, &want, ONE_SAVE)?;
-    let Ran { desk, .. } = ran(alloc, &case)?;
+    let Outcome { desk, .. } = ran(alloc, &case)?;
     let file = book_file(alloc, "book.xml")?;
     let unknown = Left::Bytes(Seq::from_vec(copy(alloc, b"?")?));
     for Standing {
@@ -258,13 +263,21 @@ fn a_save_makes_eight_calls(rt: HostRuntime) -> Result<(), Fail> {
         journal,
         gate,
         root,
-    } in STANDING
-    {
+    } in STANDING {
         assert!(rt; *calls <= desk.calls());
         let stopped = desk.after_stop(*calls, &unknown)?;
-        assert!(rt; stopped.file(&DeskName::Journal) == *journal, "after {calls} calls");
-        assert!(rt; stopped.file(&DeskName::Gate) == *gate, "after {calls} calls");
-        assert!(rt; stopped.file(&file) == Some(root.as_bytes()), "after {calls} calls");
+        assert!(rt;
+            stopped.file(&DeskName::Journal) == *journal,
+            "after {calls} calls"
+        );
+        assert!(rt;
+            stopped.file(&DeskName::Gate) == *gate,
+            "after {calls} calls"
+        );
+        assert!(rt;
+            stopped.file(&file) == Some(root.as_bytes()),
+            "after {calls} calls"
+        );
     }
     Ok(())
 }
