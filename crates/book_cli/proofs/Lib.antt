@@ -1,5 +1,6 @@
-pub mod RunLemmas
 pub mod OutputLemmas
-pub mod RunOutputLemmas
+pub mod ToldLemmas
+pub mod TreeLemmas
+pub mod SessionLemmas
 pub mod Examples
 pub mod RunExamples

@@ -1,83 +1,30 @@
 //! The run of the program, over any disk and any script.
+ghost use Rattle.std.specs.Prelude.{◌≡◌, ◌≢◌, ◌⊎◌, ◌≤◌, ◌+◌, ◌*◌, ℕ, List, length, map, Some, IsTrue};
+ghost use Rattle.bk_desk.specs.Disk.{DiskState};
+ghost use Rattle.bk_desk.specs.CrashPoints.{AtEachCrash};
+ghost use Rattle.bk_desk.specs.Cause.{HasCause};
+ghost use Rattle.jr_burst.specs.Commit.{IsClosed};
+ghost use Rattle.bk_script.specs.View.{command_of};
+ghost use Rattle.ed_session.specs.Start.{IsStarted};
+ghost use Rattle.book_cli.specs.Ends.{IsSessionRun};
 
+use crate::telling::{FAULT, NO_MEMORY, tell, tell_closed, tell_script_fault};
+use crate::tree::tell_tree;
 use crate::words::root_of;
-use bk_desk::{Desk, DeskErr, Source};
+use bk_desk::{Desk, Source};
 use bk_name::Name;
-use bk_place::print;
-use bk_run::{InputFault, Stop, line, numbered, read_input, tell_replies};
-use bk_script::{Command, ScriptFault, read_script};
+use bk_run::{InputFault, Stop, read_input, tell_replies};
+use bk_script::{Command, read_script};
 use ed_session::{Session, StartFault, start};
-use std::alloc::{AllocError, Global};
+use std::alloc::Global;
 use std::sync::ledger::Ledger;
 use xt_lex::Steps;
-
-/// The status of a run that the disk or the output failed in.
-const FAULT: u8 = 6;
-
-/// The status of a run that memory was wanting for.
-pub const NO_MEMORY: u8 = 7;
 
 const USAGE: &[u8] = b"usage: bookedit [--base URI] ROOT [CATALOG]...\n";
 
 const SOURCE_LINE: &[u8] = b"fault source\n";
 
 const JOURNAL_LINE: &[u8] = b"fault journal\n";
-
-/// Tells a whole text, and gives the status that comes with it.
-fn tell<D: Desk>(desk: &mut D, text: &[u8], status: u8) -> u8 {
-    match desk.tell(text) {
-        Ok(()) => status,
-        Err(DeskErr::Failed) => FAULT,
-        Err(DeskErr::NoMemory) => NO_MEMORY,
-    }
-}
-
-/// Tells the line that says why a root did not open.
-fn tell_closed<D: Desk>(alloc: Global, front: &[u8], root: &[u8], desk: &mut D) -> u8 {
-    match line(alloc, front, root) {
-        Ok(text) => tell(desk, &text, 3),
-        Err(_) => NO_MEMORY,
-    }
-}
-
-/// The line of a script's fault; want of memory has none.
-fn script_line(alloc: Global, fault: ScriptFault) -> Result<Vec<u8>, AllocError> {
-    match fault {
-        ScriptFault::Long => Vec::from_slice(alloc, b"fault script long\n"),
-        ScriptFault::BadLine { number } => numbered(alloc, b"fault script line ", number),
-        ScriptFault::Many => Vec::from_slice(alloc, b"fault script commands\n"),
-        ScriptFault::NoMemory => Err(AllocError),
-    }
-}
-
-/// Tells why a script has no commands.
-fn tell_script_fault<D: Desk>(alloc: Global, fault: ScriptFault, desk: &mut D) -> u8 {
-    match script_line(alloc, fault) {
-        Ok(text) => tell(desk, &text, 4),
-        Err(_) => NO_MEMORY,
-    }
-}
-
-fn uri_of(alloc: Global, file: &[u8]) -> Result<Vec<u8>, AllocError> {
-    let mut uri = Vec::from_slice(alloc, b"file:///book/")?;
-    uri.extend_from_slice(file)?;
-    Ok(uri)
-}
-
-/// The tree of the root as it was edited.
-fn tree(alloc: Global, session: &Session) -> Result<Vec<u8>, AllocError> {
-    let file = session.root().as_str().as_bytes();
-    let uri = uri_of(alloc, file)?;
-    print(alloc, file, &uri, session.bytes(), session.items())
-}
-
-/// Tells the tree behind the replies: the status is 1 where a command was refused.
-fn tell_tree<D: Desk>(alloc: Global, session: &Session, refused: bool, desk: &mut D) -> u8 {
-    match tree(alloc, session) {
-        Ok(text) => tell(desk, &text, u8::from(refused)),
-        Err(_) => NO_MEMORY,
-    }
-}
 
 /// Carries out the commands over a session, and tells their replies and the tree.
 fn run_session<D: Desk, L: Ledger>(
@@ -86,7 +33,14 @@ fn run_session<D: Desk, L: Ledger>(
     commands: &[Command],
     desk: &mut D,
     steps: &mut Steps<L>,
-) -> u8 {
+) -> u8
+    requires current { IsTrue D.tells → IsClosed (D.standing desk.old) }
+    ensures value { (result ≡ 0) ⊎ ((result ≡ 1) ⊎ ((result ≡ 6) ⊎ (result ≡ 7))) }
+    ensures output { IsTrue D.tells → (start : DiskState) → IsStarted session.old.root start (D.standing desk.old) session.old
+        → IsSessionRun session.old.root (map command_of commands.now) (D.standing desk.old) (D.standing desk.new) (AtEachCrash D.time D.was desk.old desk.new) result }
+    ensures cause_desk { HasCause (D.faults desk.old) (D.faults desk.new) (result ≡ 6) }
+    ensures count { (steps.old ≤ steps.new) × (steps.new ≤ steps.old + length commands.now * 4194304) }
+{
     match tell_replies(alloc, session, commands, desk, steps) {
         Ok(refused) => tell_tree(alloc, session, refused, desk),
         Err(Stop::Fault) => FAULT,
