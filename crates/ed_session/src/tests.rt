@@ -236,33 +236,6 @@ fn an_edit_is_refused_by_the_first_test_that_holds(rt: HostRuntime) -> Result<()
     Ok(())
 }
 
-#[test]
-fn a_file_has_at_most_4194304_bytes(rt: HostRuntime) -> Result<(), Fail> {
-    let alloc = rt.alloc();
-    let mut root = Vec::from_slice(alloc, b"<a>x<b c='")?;
-    for _ in 0..4_194_281 {
-        root.push(b'y')?;
-    }
-    root.extend_from_slice(b"'>z</b></a>")?;
-    let mut desk = desk_with(alloc, Some(&root), &[])?;
-    let mut session = started(alloc, &mut desk)??;
-    for (script, want, count) in [
-        ("text /1/1 1 1 \"xyz\"", Some(Refusal::TooLarge), 4_194_302),
-        ("text /1/1 1 1 \"&\"", Some(Refusal::TooLarge), 4_194_302),
-        (
-            "text /1/1 0 1 \"\\u{0}xyz\"",
-            Some(Refusal::BadText),
-            4_194_302,
-        ),
-        ("text /1/1 1 1 \"yz\"", None, 4_194_304),
-    ] {
-        let answer = edit(alloc, &mut session, script)?;
-        assert_eq!(rt; answer, want, "at {script}");
-        assert_eq!(rt; session.bytes().len(), count, "at {script}");
-    }
-    Ok(())
-}
-
 // A start makes 3 calls, the look at the gate 2, and a burst that writes 8.
 #[test]
 fn a_burst_writes_the_root_where_it_differs(rt: HostRuntime) -> Result<(), Fail> {
