@@ -6,7 +6,10 @@ ghost use Rattle.bk_desk.specs.Cause.{HasCause};
 ghost use Rattle.jr_burst.specs.Commit.{IsClosed};
 ghost use Rattle.bk_script.specs.View.{command_of};
 ghost use Rattle.ed_session.specs.Start.{IsStarted};
-ghost use Rattle.book_cli.specs.Ends.{IsSessionRun};
+ghost use Rattle.bk_script.specs.Script.{IsScript};
+ghost use Rattle.book_cli.specs.Output.{is_book_status};
+ghost use Rattle.book_cli.specs.Leaves.{TakesRunSteps};
+ghost use Rattle.book_cli.specs.Ends.{IsSessionRun, IsRunOver};
 
 use crate::telling::{FAULT, NO_MEMORY, tell, tell_closed, tell_script_fault};
 use crate::tree::tell_tree;
@@ -55,7 +58,14 @@ fn run_book<D: Desk, L: Ledger>(
     commands: &[Command],
     desk: &mut D,
     steps: &mut Steps<L>,
-) -> u8 {
+) -> u8
+    ensures value { IsTrue (is_book_status result) ⊎ ((result ≡ 6) ⊎ (result ≡ 7)) }
+    ensures output { IsTrue D.tells → (bytes : List ℕ) → IsScript bytes (map command_of commands.now)
+        → IsRunOver (Some root.now) bytes (D.standing desk.old) (D.standing desk.new) (AtEachCrash D.time D.was desk.old desk.new) result }
+    ensures cause_desk { HasCause (D.faults desk.old) (D.faults desk.new) (result ≡ 6) }
+    ensures count { steps.old ≤ steps.new }
+    ensures exact { IsTrue D.tells → (bytes : List ℕ) → IsScript bytes (map command_of commands.now) → TakesRunSteps (Some root.now) bytes (D.standing desk.old).files result steps.old steps.new }
+{
     match start(alloc, desk, root, steps) {
         Ok(mut session) => run_session(alloc, &mut session, commands, desk, steps),
         Err(StartFault::Desk) => FAULT,
