@@ -3,5 +3,7 @@ pub mod ToldLemmas
 pub mod TreeLemmas
 pub mod SessionLemmas
 pub mod RunLemmas
+pub mod InputLemmas
+pub mod EndLemmas
 pub mod Examples
 pub mod RunExamples

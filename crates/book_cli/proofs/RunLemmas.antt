@@ -31,7 +31,7 @@ pub not_whole : (answer : ℕ) → (answer ≡ 6) ⊎ (answer ≡ 7) → IsTrue 
 not_whole answer (inl is) ends = let bad : false ≡ true = subst (λ (n : ℕ). IsTrue (is_exit_status n)) is ends in absurd (cc)
 not_whole answer (inr is) ends = let bad : false ≡ true = subst (λ (n : ℕ). IsTrue (is_exit_status n)) is ends in absurd (cc)
 
-not_over : (answer : ℕ) → (answer ≡ 6) ⊎ (answer ≡ 7) → IsTrue (recovers_book answer) → ⊥
+pub not_over : (answer : ℕ) → (answer ≡ 6) ⊎ (answer ≡ 7) → IsTrue (recovers_book answer) → ⊥
 not_over answer (inl is) ends = let bad : false ≡ true = subst (λ (n : ℕ). IsTrue (recovers_book n)) is ends in absurd (cc)
 not_over answer (inr is) ends = let bad : false ≡ true = subst (λ (n : ℕ). IsTrue (recovers_book n)) is ends in absurd (cc)
 
@@ -44,7 +44,7 @@ told_prefix output status answer text earlier now gives (whole is told) = inr (s
 told_prefix output status answer text earlier now gives (cut failed count told) = inr (status, text, count, gives, told)
 
 -- of a run over a book that ended, the answer is the status
-ended : (status answer : ℕ) (text earlier now : List ℕ) → AnswersWith status text earlier now answer → IsTrue (recovers_book answer) → answer ≡ status
+pub ended : (status answer : ℕ) (text earlier now : List ℕ) → AnswersWith status text earlier now answer → IsTrue (recovers_book answer) → answer ≡ status
 ended status answer text earlier now (whole is told) ends = is
 ended status answer text earlier now (cut failed count told) ends = absurd (not_over answer failed ends)
 
