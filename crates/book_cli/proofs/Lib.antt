@@ -2,5 +2,8 @@ pub mod OutputLemmas
 pub mod ToldLemmas
 pub mod TreeLemmas
 pub mod SessionLemmas
+pub mod RunLemmas
+pub mod InputLemmas
+pub mod EndLemmas
 pub mod Examples
 pub mod RunExamples

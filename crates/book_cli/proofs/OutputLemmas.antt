@@ -22,10 +22,10 @@ use Rattle.bk_run.specs.Replies.{IsCommandOf, AreCommandsOf, replies_text}
 use Rattle.book_cli.specs.Words.{root_of}
 use Rattle.book_cli.specs.Output.{IsScriptLine, file_uri, IsTree, status_after, IsRun, IsBookRun, missing, not_yet, ran, BookOutput, ScriptOutput, no_script, damaged, recovered, RootOutput, IsOutput}
 
-some_same : (A : Type 0) (a b : A) (found : Option A) → found ≡ Some a → found ≡ Some b → a ≡ b
+pub some_same : (A : Type 0) (a b : A) (found : Option A) → found ≡ Some a → found ≡ Some b → a ≡ b
 some_same A a b found first second = let e : ◌≡◌ {A = Option A} (Some a) (Some b) = sym first ∙ second in cc
 
-none_some : (A : Type 0) (a : A) (found : Option A) → found ≡ None → found ≡ Some a → ⊥
+pub none_some : (A : Type 0) (a : A) (found : Option A) → found ≡ None → found ≡ Some a → ⊥
 none_some A a found first second = let e : ◌≡◌ {A = Option A} None (Some a) = sym first ∙ second in cc
 
 -- ---- commands

@@ -61,5 +61,5 @@ pub data EndsBy (root : Option (List ℕ)) (bytes : List ℕ) (rose : Type 0) (s
 -- Where the disk or the output failed, or memory was wanting: of the output a front was told, or nothing; or the source failed
 -- too, and of its line.
 pub data EndsEarly (root : Option (List ℕ)) (bytes : List ℕ) (rose : Type 0) (start now : DiskState) (points : (CrashState → Type 0) → Type 0) (answer : ℕ) : Type 0 where
-  output : WritesPrefix (RootOutput root bytes start.files) start.told now.told → points (MayCrashIn root bytes start) → EndsEarly root bytes rose start now points answer
-  source : IsSourceFault root rose start now points answer → EndsEarly root bytes rose start now points answer
+  in_part : WritesPrefix (RootOutput root bytes start.files) start.told now.told → points (MayCrashIn root bytes start) → EndsEarly root bytes rose start now points answer
+  at_source : IsSourceFault root rose start now points answer → EndsEarly root bytes rose start now points answer

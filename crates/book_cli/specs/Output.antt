@@ -8,7 +8,7 @@
 --   BookOutput       status and output for a book that was recovered, its root and the commands
 --   ScriptOutput     .. for a root, the bytes of a script and the files
 --   IsOutput         .. for the words, the script and the files
---   is_exit_status   a status that comes with a whole output
+--   is_book_status, is_script_status, is_exit_status  a status that comes with a whole output
 --   is_answer        what a run answers
 --   WritesOutput     a whole output was added to what was told
 --   WritesPrefix     a prefix of one was, or nothing
@@ -104,8 +104,15 @@ RootOutput (Some root) bytes files status text = ScriptOutput root bytes files s
 abbrev pub IsOutput : List (List ℕ) → List ℕ → DiskImage → ℕ → List ℕ → Type 0
 IsOutput words bytes files status text = RootOutput (root_of words) bytes files status text
 
+-- a status of a run whose script has a reading; is_script_status: of one whose words have; is_exit_status: of any whole output
+abbrev pub is_book_status : ℕ → Bool
+is_book_status status = status == 0 || status == 1 || status == 3 || status == 8
+
+abbrev pub is_script_status : ℕ → Bool
+is_script_status status = is_book_status status || status == 4
+
 abbrev pub is_exit_status : ℕ → Bool
-is_exit_status status = status == 0 || status == 1 || status == 2 || status == 3 || status == 4 || status == 8
+is_exit_status status = is_script_status status || status == 2
 
 -- .. or 5, 6 or 7: the source, the disk or the output failed, or memory was wanting
 abbrev pub is_answer : ℕ → Bool

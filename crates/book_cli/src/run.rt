@@ -1,16 +1,26 @@
 //! The run of the program, over any disk and any script.
-ghost use Rattle.std.specs.Prelude.{◌≡◌, ◌≢◌, ◌⊎◌, ◌≤◌, ◌+◌, ◌*◌, ℕ, List, length, map, Some, IsTrue};
+ghost use Rattle.std.specs.Prelude.{◌≡◌, ◌≢◌, ◌⊎◌, ◌≤◌, ◌+◌, ◌*◌, ℕ, List, [], length, map, Option, Some, None, IsTrue, string_bytes, encode_utf8_all};
 ghost use Rattle.bk_desk.specs.Disk.{DiskState};
 ghost use Rattle.bk_desk.specs.CrashPoints.{AtEachCrash};
-ghost use Rattle.bk_desk.specs.Cause.{HasCause};
+ghost use Rattle.bk_desk.specs.Cause.{Rose, HasCause};
 ghost use Rattle.jr_burst.specs.Commit.{IsClosed};
 ghost use Rattle.bk_script.specs.View.{command_of};
 ghost use Rattle.ed_session.specs.Start.{IsStarted};
-ghost use Rattle.book_cli.specs.Ends.{IsSessionRun};
+ghost use Rattle.bk_script.specs.Script.{IsScript};
+ghost use Rattle.book_cli.specs.Words.{root_of};
+ghost use Rattle.xt_spec.specs.Tree.{Items};
+ghost use Rattle.bk_spec.specs.Node.{Nodes};
+ghost use Rattle.bk_spec.specs.PlainNodes.{GivesNodes};
+ghost use Rattle.ed_spec.specs.Place.{text_set};
+ghost use Rattle.ed_spec.specs.Edit.{text_edit, IsInText, range_replaced, Accepts};
+ghost use Rattle.book_cli.specs.Output.{is_book_status, is_script_status, is_exit_status, is_answer, IsOutput, WritesOutput};
+ghost use Rattle.bk_run.specs.Input.{IsInput};
+ghost use Rattle.book_cli.specs.Leaves.{RecoveredBook, recovers_book, MayCrashIn, KeepsFiles, IsBookSaved, TakesRunSteps};
+ghost use Rattle.book_cli.specs.Ends.{IsSessionRun, IsRunOver, IsSourceFault, EndsBy, EndsEarly};
 
 use crate::telling::{FAULT, NO_MEMORY, tell, tell_closed, tell_script_fault};
 use crate::tree::tell_tree;
-use crate::words::root_of;
+use crate::words::root_of as named_root;
 use bk_desk::{Desk, Source};
 use bk_name::Name;
 use bk_run::{InputFault, Stop, read_input, tell_replies};
@@ -55,7 +65,14 @@ fn run_book<D: Desk, L: Ledger>(
     commands: &[Command],
     desk: &mut D,
     steps: &mut Steps<L>,
-) -> u8 {
+) -> u8
+    ensures value { IsTrue (is_book_status result) ⊎ ((result ≡ 6) ⊎ (result ≡ 7)) }
+    ensures output { IsTrue D.tells → (bytes : List ℕ) → IsScript bytes (map command_of commands.now)
+        → IsRunOver (Some root.now) bytes (D.standing desk.old) (D.standing desk.new) (AtEachCrash D.time D.was desk.old desk.new) result }
+    ensures cause_desk { HasCause (D.faults desk.old) (D.faults desk.new) (result ≡ 6) }
+    ensures count { steps.old ≤ steps.new }
+    ensures exact { IsTrue D.tells → (bytes : List ℕ) → IsScript bytes (map command_of commands.now) → TakesRunSteps (Some root.now) bytes (D.standing desk.old).files result steps.old steps.new }
+{
     match start(alloc, desk, root, steps) {
         Ok(mut session) => run_session(alloc, &mut session, commands, desk, steps),
         Err(StartFault::Desk) => FAULT,
@@ -73,7 +90,16 @@ fn run_script<D: Desk, L: Ledger>(
     bytes: &[u8],
     desk: &mut D,
     steps: &mut Steps<L>,
-) -> u8 {
+) -> u8
+    ensures value { IsTrue (is_script_status result) ⊎ ((result ≡ 6) ⊎ (result ≡ 7)) }
+    ensures only { IsTrue (is_book_status result) → length bytes.now ≤ 1048576 }
+    ensures output { IsTrue D.tells → (left : List ℕ) (after : Option (List ℕ)) → IsInput 1048577 left after bytes.now
+        → IsRunOver (Some root.now) left (D.standing desk.old) (D.standing desk.new) (AtEachCrash D.time D.was desk.old desk.new) result }
+    ensures same { IsTrue D.tells → result ≡ 4 → KeepsFiles (D.standing desk.old) (D.standing desk.new) }
+    ensures cause_desk { HasCause (D.faults desk.old) (D.faults desk.new) (result ≡ 6) }
+    ensures count { steps.old ≤ steps.new }
+    ensures exact { IsTrue D.tells → (left : List ℕ) (after : Option (List ℕ)) → IsInput 1048577 left after bytes.now → TakesRunSteps (Some root.now) left (D.standing desk.old).files result steps.old steps.new }
+{
     match read_script(alloc, bytes) {
         Ok(commands) => run_book(alloc, root, &commands, desk, steps),
         Err(fault) => tell_script_fault(alloc, fault, desk),
@@ -87,7 +113,18 @@ fn run_root<D: Desk, S: Source, L: Ledger>(
     script: &mut S,
     desk: &mut D,
     steps: &mut Steps<L>,
-) -> u8 {
+) -> u8
+    ensures value { IsTrue (is_script_status result) ⊎ ((result ≡ 5) ⊎ ((result ≡ 6) ⊎ (result ≡ 7))) }
+    ensures output { IsTrue D.tells → (left : List ℕ) → S.left script.old ≡ Some left
+        → EndsBy (Some root.now) left (Rose (S.faults script.old) (S.faults script.new)) (D.standing desk.old) (D.standing desk.new) (AtEachCrash D.time D.was desk.old desk.new) result }
+    ensures fault { IsTrue D.tells → result ≡ 5 → IsSourceFault (Some root.now) (Rose (S.faults script.old) (S.faults script.new)) (D.standing desk.old) (D.standing desk.new) (AtEachCrash D.time D.was desk.old desk.new) result }
+    ensures none { (left : List ℕ) → S.left script.old ≡ Some left → IsTrue (is_book_status result) → S.left script.new ≡ Some [] }
+    ensures same { IsTrue D.tells → (result ≡ 4) ⊎ (result ≡ 5) → KeepsFiles (D.standing desk.old) (D.standing desk.new) }
+    ensures cause_desk { HasCause (D.faults desk.old) (D.faults desk.new) (result ≡ 6) }
+    ensures cause { HasCause (S.faults script.old) (S.faults script.new) (result ≡ 5) }
+    ensures count { steps.old ≤ steps.new }
+    ensures exact { IsTrue D.tells → (left : List ℕ) → S.left script.old ≡ Some left → TakesRunSteps (Some root.now) left (D.standing desk.old).files result steps.old steps.new }
+{
     match read_input(alloc, script) {
         Ok(bytes) => run_script(alloc, root, &bytes, desk, steps),
         Err(InputFault::Source) => tell(desk, SOURCE_LINE, 5),
@@ -95,23 +132,80 @@ fn run_root<D: Desk, S: Source, L: Ledger>(
     }
 }
 
-/// Carries out a script over the book whose root the words name: tells the reply to each command, and then the tree; or the
-/// one line that says why not.
+/// The run, where the words have a reading or not.
+fn run_words<D: Desk, S: Source, L: Ledger>(
+    alloc: Global,
+    words: &[String],
+    script: &mut S,
+    desk: &mut D,
+    steps: &mut Steps<L>,
+) -> u8
+    ensures value { IsTrue (is_answer result) }
+    ensures output { IsTrue D.tells → (left : List ℕ) → S.left script.old ≡ Some left
+        → EndsBy (root_of (map string_bytes words.now)) left (Rose (S.faults script.old) (S.faults script.new)) (D.standing desk.old) (D.standing desk.new) (AtEachCrash D.time D.was desk.old desk.new) result }
+    ensures fault { IsTrue D.tells → result ≡ 5 → IsSourceFault (root_of (map string_bytes words.now)) (Rose (S.faults script.old) (S.faults script.new)) (D.standing desk.old) (D.standing desk.new) (AtEachCrash D.time D.was desk.old desk.new) result }
+    ensures none { (left : List ℕ) → S.left script.old ≡ Some left → IsTrue (is_book_status result) → S.left script.new ≡ Some [] }
+    ensures keeps { root_of (map string_bytes words.now) ≡ None → script.new ≡ script.old }
+    ensures same { IsTrue D.tells → (result ≡ 2) ⊎ ((result ≡ 4) ⊎ (result ≡ 5)) → KeepsFiles (D.standing desk.old) (D.standing desk.new) }
+    ensures cause_desk { HasCause (D.faults desk.old) (D.faults desk.new) (result ≡ 6) }
+    ensures cause { HasCause (S.faults script.old) (S.faults script.new) (result ≡ 5) }
+    ensures count { steps.old ≤ steps.new }
+    ensures exact { IsTrue D.tells → (left : List ℕ) → S.left script.old ≡ Some left → TakesRunSteps (root_of (map string_bytes words.now)) left (D.standing desk.old).files result steps.old steps.new }
+{
+    match named_root(alloc, words) {
+        Ok(Some(root)) => run_root(alloc, &root, script, desk, steps),
+        Ok(None) => tell(desk, USAGE, 2),
+        Err(_) => NO_MEMORY,
+    }
+}
+
+/// Carries out a script over the book whose root the words name: tells the reply to each command and then the tree, or the one
+/// line that says why not. The order is: the words; the script to its end, and its lines; the recovery of the book; its root; the
+/// commands, each reply before the next command; the tree.
 ///
-/// The order is: the words, the script to its end, its lines, the recovery of the book, its root, the commands, the tree.
-/// The answer is the exit status: 0, or 1 where a command was refused; 2 for words without a reading, 3 for a root that does not open,
-/// 4 for a script without a reading, 5 where the source of the script failed, 8 for a damaged journal; 6 where the disk or the output failed, 7 where
-/// memory was wanting.
+/// The answer is the exit status: 0, or 1 where a command was refused; 2 for words without a reading, 3 for a root that is not
+/// there or no plain document, 4 for a script without a reading, 8 for a damaged journal; 5 where the source of the script
+/// failed, 6 where the disk or the output did, 7 where memory was wanting. Where no count of faults rose it is the status of the
+/// definition, or 7.
 pub fn run<D: Desk, S: Source, L: Ledger>(
     alloc: Global,
     words: &[String],
     script: &mut S,
     desk: &mut D,
     steps: &mut Steps<L>,
-) -> u8 {
-    match root_of(alloc, words) {
-        Ok(Some(root)) => run_root(alloc, &root, script, desk, steps),
-        Ok(None) => tell(desk, USAGE, 2),
-        Err(_) => NO_MEMORY,
-    }
+) -> u8
+    ensures value { IsTrue (is_answer result) }
+    // With 0, 1, 2, 3, 4 or 8 exactly the output was told, and the answer is its status.
+    ensures output { IsTrue D.tells → (left : List ℕ) → S.left script.old ≡ Some left → IsTrue (is_exit_status result)
+        → WritesOutput (IsOutput (map string_bytes words.now) left (D.standing desk.old).files) result (D.standing desk.old).told (D.standing desk.new).told }
+    // With 5 exactly the line of the source was told; what a crash leaves of such a run.
+    ensures fault { IsTrue D.tells → result ≡ 5
+        → IsSourceFault (root_of (map string_bytes words.now)) (Rose (S.faults script.old) (S.faults script.new)) (D.standing desk.old) (D.standing desk.new) (AtEachCrash D.time D.was desk.old desk.new) result }
+    // With 6 or 7 a front of the output, or of the line of the source; what a crash leaves of either.
+    ensures prefix { IsTrue D.tells → (left : List ℕ) → S.left script.old ≡ Some left → (result ≡ 6) ⊎ (result ≡ 7)
+        → EndsEarly (root_of (map string_bytes words.now)) left (Rose (S.faults script.old) (S.faults script.new)) (D.standing desk.old) (D.standing desk.new) (AtEachCrash D.time D.was desk.old desk.new) result }
+    ensures crash { IsTrue D.tells → (left : List ℕ) → S.left script.old ≡ Some left → IsTrue (is_exit_status result)
+        → AtEachCrash D.time D.was desk.old desk.new (MayCrashIn (root_of (map string_bytes words.now)) left (D.standing desk.old)) }
+    // After 0, 1 and 3.
+    ensures durable { IsTrue D.tells → (left : List ℕ) → S.left script.old ≡ Some left → IsTrue (recovers_book result)
+        → IsBookSaved (root_of (map string_bytes words.now)) left (D.standing desk.old) (D.standing desk.new) result }
+    ensures same { IsTrue D.tells → (result ≡ 2) ⊎ ((result ≡ 4) ⊎ (result ≡ 5)) → KeepsFiles (D.standing desk.old) (D.standing desk.new) }
+    // Where no book is recovered: after 8 too.
+    ensures others { IsTrue D.tells → (left : List ℕ) → S.left script.old ≡ Some left
+        → (RecoveredBook (root_of (map string_bytes words.now)) left (D.standing desk.old).files → ⊥) → (D.standing desk.new).files ≡ (D.standing desk.old).files }
+    ensures cause_desk { HasCause (D.faults desk.old) (D.faults desk.new) (result ≡ 6) }
+    ensures cause { HasCause (S.faults script.old) (S.faults script.new) (result ≡ 5) }
+    // After 0, 1, 3 and 8 nothing of the script is left.
+    ensures none { (left : List ℕ) → S.left script.old ≡ Some left → IsTrue (is_book_status result) → S.left script.new ≡ Some [] }
+    ensures keeps { root_of (map string_bytes words.now) ≡ None → script.new ≡ script.old }
+    // An edit that is accepted gives the text at its place the new value, and leaves all other nodes (`ed_laws`).
+    ensures law { (file uri : List ℕ) (items others : Items) (nodes : Nodes) (place : List ℕ) (from to : ℕ) (new : List ℕ)
+        → GivesNodes file uri items nodes → Accepts items (text_edit place from to new) others
+        → (path characters : List ℕ) × IsInText items place from to path characters
+        × GivesNodes file uri others (text_set nodes place (encode_utf8_all (range_replaced characters from to new))) }
+    ensures count { steps.old ≤ steps.new }
+    ensures exact { IsTrue D.tells → (left : List ℕ) → S.left script.old ≡ Some left
+        → TakesRunSteps (root_of (map string_bytes words.now)) left (D.standing desk.old).files result steps.old steps.new }
+{
+    run_words(alloc, words, script, desk, steps)
 }

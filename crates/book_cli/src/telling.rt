@@ -3,6 +3,7 @@ ghost use Rattle.std.specs.Prelude.{◌≡◌, ◌≢◌, ◌⊎◌, ◌++◌, �
 ghost use Rattle.bk_desk.specs.CrashPoints.{AtEachCrash};
 ghost use Rattle.bk_desk.specs.Cause.{HasCause};
 ghost use Rattle.book_cli.specs.Output.{IsScriptLine};
+ghost use Rattle.book_cli.specs.Leaves.{KeepsFiles};
 ghost use Rattle.book_cli.specs.Ends.{IsToldWith};
 
 use bk_desk::{Desk, DeskErr};
@@ -57,6 +58,8 @@ fn script_line(alloc: Global, fault: ScriptFault) -> Result<Vec<u8>, AllocError>
 /// Tells why a script has no commands.
 pub(crate) fn tell_script_fault<D: Desk>(alloc: Global, fault: ScriptFault, desk: &mut D) -> u8
     ensures value { (result ≡ 4) ⊎ ((result ≡ 6) ⊎ (result ≡ 7)) }
+    ensures same { fault ≡ ScriptFault.NoMemory → (result ≡ 7) × (desk.new ≡ desk.old) }
+    ensures others { IsTrue D.tells → KeepsFiles (D.standing desk.old) (D.standing desk.new) }
     ensures output { IsTrue D.tells → (text : List ℕ) → IsScriptLine fault text → IsToldWith 4 text (D.standing desk.old) (D.standing desk.new) (AtEachCrash D.time D.was desk.old desk.new) result }
     ensures cause_desk { HasCause (D.faults desk.old) (D.faults desk.new) (result ≡ 6) }
 {
