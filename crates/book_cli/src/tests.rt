@@ -11,7 +11,8 @@ mod stops;
 mod trees;
 mod words;
 
-use crate::run::{NO_MEMORY, run};
+use crate::run::run;
+use crate::telling::NO_MEMORY;
 use bk_desk::{Desk, DeskName, MemDesk, MemSource, Source};
 use bk_name::{BadName, Name};
 use std::alloc::{AllocError, Global};

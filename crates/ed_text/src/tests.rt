@@ -46,10 +46,8 @@ fn edited_over<L: Ledger>(
     requires some { L.parts ≡ 1 }
 {
     let mut steps = Steps::<L>::new(blank);
-    match read_document(alloc, file, &mut steps) {
-        Ok(items) => with_text(alloc, file, items.as_slice(), path, value.as_str(), false),
-        Err(_) => Ok(Vec::new(alloc)),
-    }
+    let items = read_document(alloc, file, &mut steps)?;
+    with_text(alloc, file, items.as_slice(), path, value.as_str(), false)
 }
 
 /// The document with this value at the path.

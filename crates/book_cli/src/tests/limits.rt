@@ -5,12 +5,12 @@ use std::process::Abort;
 use std::test::Fail;
 
 /// A document that opens with the tree of these parts, and one that is too large.
-fn check_limit(
+fn check_limit<'a>(
     rt: &impl Abort,
     alloc: Global,
-    greatest: &str,
-    tree: &[&str],
-    greater: &str,
+    greatest: &'a str,
+    tree: &'a [&'a str],
+    greater: &'a str,
 ) -> Result<(), Fail> {
     let case = over(greatest, "");
     let opens = Want {
@@ -100,6 +100,24 @@ fn a_million_nodes_open_and_one_more_do_not(rt: HostRuntime) -> Result<(), Fail>
     )
 }
 
+/// A run of five commands over a root: what is told, in parts, and the root afterwards.
+fn check_edits<'a>(
+    rt: &impl Abort,
+    alloc: Global,
+    root: &'a str,
+    script: &'a str,
+    told: &'a [&'a str],
+    after: &'a str,
+) -> Result<(), Fail> {
+    let want = Want {
+        status: 1,
+        told,
+        calls: 17,
+        root: Some(after.as_bytes()),
+    };
+    check(rt, alloc, &over(root, script), &want, "the greatest")
+}
+
 // `<a>x<b c='`, 4,194,281 bytes of a value, and `'>z</b></a>` are 4,194,302 bytes: two more are the most. An escape counts
 // as it is written, and a text that has a character which no document may hold is refused for that first.
 #[test]
@@ -111,18 +129,12 @@ fn an_edit_leaves_at_most_4194304_bytes(rt: HostRuntime) -> Result<(), Fail> {
     let script =
         "text /1/1 1 1 \"xyz\"\ntext /1/1 1 1 \"&\"\ntext /1/1 0 1 \"\\u{0}xyz\"\ntext /1/1 1 1 \"yz\"\nburst\n";
     let replies = "refused TooLarge\nrefused TooLarge\nrefused BadText\nok\nburst 1\n";
-    let case = over(root.as_str(), script);
-    let want = Want {
-        status: 1,
-        told: &[
-            replies,
-            HEAD,
-            "  text \"xyz\" in book.xml\n  element b in book.xml\n    attribute c=\"",
-            value.as_str(),
-            "\"\n    text \"z\" in book.xml\n",
-        ],
-        calls: 17,
-        root: Some(edited.as_str().as_bytes()),
-    };
-    check(&rt, alloc, &case, &want, "the greatest")
+    let told = [
+        replies,
+        HEAD,
+        "  text \"xyz\" in book.xml\n  element b in book.xml\n    attribute c=\"",
+        value.as_str(),
+        "\"\n    text \"z\" in book.xml\n",
+    ];
+    check_edits(&rt, alloc, root.as_str(), script, &told, edited.as_str())
 }

@@ -181,6 +181,13 @@ fn tree_of(alloc: Global, root: &str) -> Result<Vec<u8>, Fail> {
     joined(alloc, &[HEAD, text])
 }
 
+fn has(desk: &MemDesk, name: &DeskName, bytes: &[u8]) -> bool {
+    match desk.file(name) {
+        Some(found) => found == bytes,
+        None => false,
+    }
+}
+
 /// A run without a command over what was left: it ends well, tells the tree of this root, and leaves it and no open marker.
 fn opens(
     rt: &impl Abort,
@@ -191,15 +198,14 @@ fn opens(
 ) -> Result<(), Fail> {
     let status = opened_again(alloc, stopped)?;
     let tree = tree_of(alloc, root)?;
-    let gate = stopped.file(&DeskName::Gate);
     let file = book_file(alloc, "book.xml")?;
     assert_eq!(rt; status, 0, "after {calls} calls");
     assert!(rt; stopped.told() == tree.as_slice(), "after {calls} calls");
+    assert!(rt; has(stopped, &file, root.as_bytes()), "after {calls} calls");
     assert!(rt;
-        stopped.file(&file) == Some(root.as_bytes()),
+        !has(stopped, &DeskName::Gate, b"OPEN"),
         "after {calls} calls"
     );
-    assert!(rt; gate != Some(b"OPEN".as_slice()), "after {calls} calls");
     Ok(())
 }
 
@@ -234,7 +240,7 @@ fn check_stops(
         for left in &lefts {
             if calls <= desk.calls() {
                 let mut stopped = desk.after_stop(calls, left)?;
-                let is_open = stopped.file(&DeskName::Gate) == Some(b"OPEN".as_slice());
+                let is_open = has(&stopped, &DeskName::Gate, b"OPEN");
                 let root = root_left(stages, calls, is_open);
                 opens(rt, alloc, &mut stopped, root, calls)?;
                 opens_after_each_stop(rt, alloc, &stopped, root, &lefts)?;
@@ -285,23 +291,22 @@ fn a_save_makes_eight_calls(rt: HostRuntime) -> Result<(), Fail> {
 // What a run had told where a call fails: each reply when the save is durable, and not before.
 #[test]
 fn a_reply_is_told_after_its_command(rt: HostRuntime) -> Result<(), Fail> {
-    for (calls, told) in [
-        (1, ""),
-        (2, ""),
-        (3, ""),
-        (4, ""),
-        (5, "ok\n"),
-        (6, "ok\n"),
-        (7, "ok\n"),
-        (8, "ok\n"),
-        (9, "ok\n"),
-        (10, "ok\n"),
-        (11, "ok\n"),
-        (12, "ok\n"),
-        (13, "ok\n"),
-        (14, "ok\nburst 1\n"),
+    for (calls, told, root) in [
+        (1, "", OLD),
+        (2, "", OLD),
+        (3, "", OLD),
+        (4, "", OLD),
+        (5, "ok\n", OLD),
+        (6, "ok\n", OLD),
+        (7, "ok\n", OLD),
+        (8, "ok\n", OLD),
+        (9, "ok\n", OLD),
+        (10, "ok\n", NEW),
+        (11, "ok\n", NEW),
+        (12, "ok\n", NEW),
+        (13, "ok\n", NEW),
+        (14, "ok\nburst 1\n", NEW),
     ] {
-        let root = if calls <= 9 { OLD } else { NEW };
         let case = Case {
             lost_calls: &[calls],
             ..over(OLD, ONE_SAVE)
