@@ -1,16 +1,21 @@
 //! Files of the current folder.
 use super::{book_file, joined, run_words};
 use crate::real::RealDesk;
-use bk_desk::{Desk, DeskName, Got, MemSource};
+use bk_desk::{Desk, DeskErr, DeskName, Got, MemSource};
 use std::io;
 use std::test::Fail;
 
 /// Whether a read gives these bytes.
-fn reads<D: Desk>(desk: &mut D, name: &DeskName, cap: usize, bytes: &[u8]) -> bool {
-    match desk.read(name, cap) {
-        Ok(Got::Bytes(found)) => found.as_slice() == bytes,
-        Ok(_) => false,
-        Err(_) => false,
+fn reads<D: Desk>(
+    desk: &mut D,
+    name: &DeskName,
+    cap: usize,
+    bytes: &[u8],
+) -> Result<bool, DeskErr> {
+    match desk.read(name, cap)? {
+        Got::Bytes(found) => Ok(found.as_slice() == bytes),
+        Got::Absent => Ok(false),
+        Got::Longer => Ok(false),
     }
 }
 
@@ -21,15 +26,19 @@ fn real_files_are_written_and_read_back(rt: HostRuntime) -> Result<(), Fail> {
     let file = book_file(alloc, "real-desk-test/one/a.xml")?;
     let folder = book_file(alloc, "real-desk-test/one")?;
     let below = book_file(alloc, "real-desk-test/one/a.xml/b.xml")?;
-    assert!(rt; desk.write_file(&file, b"<a/>").is_ok() && desk.sync().is_ok());
-    assert!(rt; reads(&mut desk, &file, 4, b"<a/>"));
-    assert!(rt; matches!(desk.read(&file, 3), Ok(Got::Longer)));
-    assert!(rt; matches!(desk.read(&folder, 4), Ok(Got::Absent)));
-    assert!(rt; matches!(desk.read(&below, 4), Ok(Got::Absent)));
-    assert!(rt; desk.remove(&below).is_ok() && desk.remove(&folder).is_ok());
+    desk.write_file(&file, b"<a/>")?;
+    desk.sync()?;
+    assert!(rt; reads(&mut desk, &file, 4, b"<a/>")?);
+    assert!(rt; matches!(desk.read(&file, 3)?, Got::Longer));
+    assert!(rt; matches!(desk.read(&folder, 4)?, Got::Absent));
+    assert!(rt; matches!(desk.read(&below, 4)?, Got::Absent));
+    desk.remove(&below)?;
+    desk.remove(&folder)?;
     assert!(rt; desk.write_file(&folder, b"x").is_err() && desk.write_file(&below, b"x").is_err());
-    assert!(rt; desk.remove(&file).is_ok() && desk.remove(&file).is_ok() && desk.sync().is_ok());
-    assert!(rt; matches!(desk.read(&file, 4), Ok(Got::Absent)));
+    desk.remove(&file)?;
+    desk.remove(&file)?;
+    desk.sync()?;
+    assert!(rt; matches!(desk.read(&file, 4)?, Got::Absent));
     Ok(())
 }
 
@@ -52,7 +61,8 @@ fn a_run_saves_a_real_file(rt: HostRuntime) -> Result<(), Fail> {
     let word = "real-run-test.xml";
     let file = book_file(alloc, word)?;
     let mut desk = RealDesk::new(&rt, io::writer(&rt), alloc);
-    assert!(rt; desk.write_file(&file, b"<a>old</a>").is_ok() && desk.sync().is_ok());
+    desk.write_file(&file, b"<a>old</a>")?;
+    desk.sync()?;
     let tree =
         "element a in real-run-test.xml\n  base file:///book/real-run-test.xml\n  text \"new\" in real-run-test.xml\n";
     for (script, replies) in [
@@ -63,13 +73,14 @@ fn a_run_saves_a_real_file(rt: HostRuntime) -> Result<(), Fail> {
         let (status, told) = told_of(&rt, word, script)?;
         assert_eq!(rt; status, 0, "at {script}");
         assert!(rt; told == joined(alloc, &[replies, tree])?, "at {script}");
-        assert!(rt; reads(&mut desk, &file, 10, b"<a>new</a>"), "at {script}");
+        assert!(rt; reads(&mut desk, &file, 10, b"<a>new</a>")?, "at {script}");
         assert!(rt;
-            matches!(desk.read(&DeskName::Gate, 4), Ok(Got::Absent)),
+            matches!(desk.read(&DeskName::Gate, 4)?, Got::Absent),
             "at {script}"
         );
     }
-    assert!(rt; desk.remove(&file).is_ok() && desk.remove(&DeskName::Journal).is_ok());
-    assert!(rt; desk.sync().is_ok());
+    desk.remove(&file)?;
+    desk.remove(&DeskName::Journal)?;
+    desk.sync()?;
     Ok(())
 }
