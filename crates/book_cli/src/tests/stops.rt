@@ -288,36 +288,49 @@ fn a_save_makes_eight_calls(rt: HostRuntime) -> Result<(), Fail> {
     Ok(())
 }
 
-// What a run had told where a call fails: each reply when the save is durable, and not before.
+/// What a run had told where the call of this number fails, and the root then.
+const TOLD: &[(u64, &str, &str)] = &[
+    (1, "", OLD),
+    (2, "", OLD),
+    (3, "", OLD),
+    (4, "", OLD),
+    (5, "ok\n", OLD),
+    (6, "ok\n", OLD),
+    (7, "ok\n", OLD),
+    (8, "ok\n", OLD),
+    (9, "ok\n", OLD),
+    (10, "ok\n", NEW),
+    (11, "ok\n", NEW),
+    (12, "ok\n", NEW),
+    (13, "ok\n", NEW),
+    (14, "ok\nburst 1\n", NEW),
+];
+
+fn check_told(
+    rt: &impl Abort,
+    alloc: Global,
+    calls: u64,
+    told: &'static str,
+    root: &'static str,
+) -> Result<(), Fail> {
+    let case = Case {
+        lost_calls: &[calls],
+        ..over(OLD, ONE_SAVE)
+    };
+    let want = Want {
+        status: 6,
+        told: &[told],
+        calls,
+        root: Some(root.as_bytes()),
+    };
+    check(rt, alloc, &case, &want, told)
+}
+
+// Each reply comes when the save is durable, and not before.
 #[test]
 fn a_reply_is_told_after_its_command(rt: HostRuntime) -> Result<(), Fail> {
-    for (calls, told, root) in [
-        (1, "", OLD),
-        (2, "", OLD),
-        (3, "", OLD),
-        (4, "", OLD),
-        (5, "ok\n", OLD),
-        (6, "ok\n", OLD),
-        (7, "ok\n", OLD),
-        (8, "ok\n", OLD),
-        (9, "ok\n", OLD),
-        (10, "ok\n", NEW),
-        (11, "ok\n", NEW),
-        (12, "ok\n", NEW),
-        (13, "ok\n", NEW),
-        (14, "ok\nburst 1\n", NEW),
-    ] {
-        let case = Case {
-            lost_calls: &[calls],
-            ..over(OLD, ONE_SAVE)
-        };
-        let want = Want {
-            status: 6,
-            told: &[told],
-            calls,
-            root: Some(root.as_bytes()),
-        };
-        check(&rt, rt.alloc(), &case, &want, told)?;
+    for (calls, told, root) in TOLD {
+        check_told(&rt, rt.alloc(), *calls, told, root)?;
     }
     Ok(())
 }
