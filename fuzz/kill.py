@@ -19,6 +19,8 @@ from model import GATE, JOURNAL, Fault, want
 
 ROOT = "book.xml"
 CALLS = "openat,open,creat,write,writev,pwrite64,fsync,fdatasync,sync,syncfs,unlink,unlinkat,mkdir,mkdirat,rename,renameat,renameat2,ftruncate,truncate,link,linkat,symlink,symlinkat,rmdir"
+READS = "read,pread64,lseek,close,newfstatat,fstat,statx"
+NOT_LOADED = 127  # the status of the loader, where it could not read the C library
 PARTS = "abcXYZ019-._~" + "é中 "
 
 
@@ -189,7 +191,7 @@ def traced(folder, case, program, words):
 
 
 def calls_of(folder, case, program):
-    _, status, lines = traced(folder, case, program, ["-e", f"trace={CALLS}"])
+    _, status, lines = traced(folder, case, program, ["-e", f"trace={CALLS},{READS}"])
     want("the status of a whole run", status, 0)
     return sum(1 for line in lines if re.match(r"\d+ +\w+\(", line))
 
@@ -205,17 +207,29 @@ def stop_round(rng, home, program):
         fault = rng.choice(("EIO", "ENOSPC", "EACCES"))
         for way in (f"error=EINTR:signal=KILL:when={number}", f"error={fault}:when={number}", f"error={fault}:when={number}+"):
             model.put_files_anew(folder, case.files)
-            told, status, _ = traced(folder, case, program, ["-e", f"trace={CALLS}", "-e", f"inject={CALLS}:{way}"])
+            told, status, _ = traced(folder, case, program, ["-e", f"trace={CALLS},{READS}", "-e", f"inject={CALLS},{READS}:{way}"])
             ended = "killed" if "KILL" in way else f"status {status}"
-            if "KILL" not in way and status not in (0, 6, 127):
+            if "KILL" not in way and status not in (0, 5, 6, NOT_LOADED):
                 raise Fault(f"status {status} with {way}")
-            check_told(case, told)
+            check_stopped(case, folder, told, status)
             try:
                 counts[check_folder(case, folder, told, program)] += 1
             except Fault as fault_found:
                 raise Fault(f"with {way}: {fault_found}") from fault_found
             counts[ended] += 1
     return counts
+
+
+def check_stopped(case, folder, told, status):
+    """Whether a run that was stopped told what it may; where it could not read its script it did nothing else."""
+    if status == 0:
+        want("the output with status 0", told, whole_output(case))
+        want("the files with status 0", model.book_of(model.files_in(folder)), case.after)
+    elif status == 5:
+        want("the output with status 5", told, b"fault source\n")
+        want("the files with status 5", model.files_in(folder), case.files)
+    else:
+        check_told(case, told)
 
 
 # Power cuts: what a disk may hold that kept only what was synced
