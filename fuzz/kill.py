@@ -54,10 +54,11 @@ def some_names(rng, count):
 
 
 class Case:
-    """A folder, a script, the files that are written or removed, and the books that the next run may find: before and after."""
+    """A folder, a script, the files that are written or removed, and the books that the next run may find, by the number of
+    saves that were made: after a recovery there is one."""
 
-    def __init__(self, files, script, touched, before, after):
-        self.files, self.script, self.touched, self.before, self.after = files, script, set(touched), before, after
+    def __init__(self, files, script, touched, books):
+        self.files, self.script, self.touched, self.books = files, script, set(touched), books
 
     def others(self, files):
         """Those of some files that are neither written nor removed."""
@@ -65,16 +66,19 @@ class Case:
 
 
 def save_case(rng, most):
-    """A burst of the root beside other files; in some folders a closed journal of an earlier save lies about."""
-    old = document(rng, "old", most)
-    files = {ROOT.encode(): old, b"other.xml": b"<o/>", b"d/e.xml": b"<e/>"}
+    """One to three edits of the root, each with a burst, beside other files; in some folders lies a journal that was carried out."""
+    text = document(rng, "old", most).decode()
+    files = {ROOT.encode(): text.encode(), b"other.xml": b"<o/>", b"d/e.xml": b"<e/>"}
     if rng.random() < 0.5:
         files[JOURNAL.encode()] = model.journal_of([(b"other.xml", b"<wrong/>"), (ROOT.encode(), b"<wrong/>")])
-    string = rng.choice("uvw") * rng.randint(1, most)
-    reply, new = model.edited(old.decode(), (1, 1), 0, 1, string)
-    want("the model's reply", reply, "ok")
-    before = model.book_of(files)
-    return Case(files, f"text /1/1 0 1 \"{string}\"\nburst\n".encode(), [ROOT.encode()], before, {**before, ROOT.encode(): new.encode()})
+    books, script = [model.book_of(files)], []
+    for number in range(rng.choice((1, 1, 2, 3))):
+        string = f"{number}" + rng.choice("uvw") * rng.randint(0, min(most, 300_000))
+        reply, text = model.edited(text, (1, 1), 0, 1, string)
+        want("the model's reply", reply, "ok")
+        script.append(f"text /1/1 0 1 \"{string}\"\nburst\n")
+        books.append({**books[0], ROOT.encode(): text.encode()})
+    return Case(files, "".join(script).encode(), [ROOT.encode()], books)
 
 
 def recovery_case(rng, most, count):
@@ -88,35 +92,36 @@ def recovery_case(rng, most, count):
             files[name] = b"stays"
     files[JOURNAL.encode()] = model.journal_of(items)
     files[GATE.encode()] = b"OPEN"
-    after = model.book_of(model.recovered(files))
-    return Case(files, b"", [name for name, _ in items], after, after)
+    return Case(files, b"", [name for name, _ in items], [model.book_of(model.recovered(files))])
 
 
 # After a stop
 
 
-def check_folder(case, folder, told, program):
-    """Whether the next run gives one of the books, whole, and the one after it changes nothing."""
+def check_folder(case, folder, saves, program):
+    """Whether the next run gives the book of the saves that were told, or of one more, and the run after it changes nothing."""
     want("the other files", case.others(model.files_in(folder)), case.others(case.files))
     again = model.run(folder, [ROOT], b"", program)
     files = model.files_in(folder)
     book = model.book_of(files)
-    if book != case.after and book != case.before:
-        raise Fault(f"neither the old nor the new book: {model.short(book)}")
-    if b"burst 1\n" in told:
-        want("what was told saved", book, case.after)
+    if book not in case.books[saves : saves + 2]:
+        raise Fault(f"after {saves} saves: {model.short(book)}")
     if files.get(GATE.encode()) == b"OPEN":
         raise Fault("the gate is still open")
     want("the output of the next run", again, model.Told(0, model.printed(book[ROOT.encode()], ROOT)))
     want("the run after it", model.run(folder, [ROOT], b"", program), again)
     want("the files after it", model.files_in(folder), files)
-    return "new" if book == case.after else "old"
+    return "new" if book == case.books[-1] else "old"
+
+
+def saves_in(told):
+    """How many saves were told."""
+    return told.count(b"burst 1\n")
 
 
 def whole_output(case):
     """What a run that is not stopped tells, and its status."""
-    replies = b"ok\nburst 1\n" if case.script else b""
-    return replies + model.printed(case.after[ROOT.encode()], ROOT)
+    return b"ok\nburst 1\n" * (len(case.books) - 1) + model.printed(case.books[-1][ROOT.encode()], ROOT)
 
 
 def check_told(case, told):
@@ -165,7 +170,7 @@ def kill_round(rng, home, program):
     folder = os.path.join(home, "folder")
     model.put_files_anew(folder, case.files)
     whole = time_of(folder, case, program)
-    want("files of a whole run", model.book_of(model.files_in(folder)), case.after)
+    want("files of a whole run", model.book_of(model.files_in(folder)), case.books[-1])
     for _ in range(12):
         model.put_files_anew(folder, case.files)
         stops = rng.choice((1, 1, 3)) if not case.script else 1
@@ -175,7 +180,7 @@ def kill_round(rng, home, program):
             if status not in (0, -9):
                 raise Fault(f"status {status}")
         counts["killed" if status == -9 else "ended"] += 1
-        counts[check_folder(case, folder, told, program)] += 1
+        counts[check_folder(case, folder, saves_in(told), program)] += 1
     return counts
 
 
@@ -213,7 +218,7 @@ def stop_round(rng, home, program):
                 raise Fault(f"status {status} with {way}")
             check_stopped(case, folder, told, status)
             try:
-                counts[check_folder(case, folder, told, program)] += 1
+                counts[check_folder(case, folder, saves_in(told), program)] += 1
             except Fault as fault_found:
                 raise Fault(f"with {way}: {fault_found}") from fault_found
             counts[ended] += 1
@@ -224,7 +229,7 @@ def check_stopped(case, folder, told, status):
     """Whether a run that was stopped told what it may; where it could not read its script it did nothing else."""
     if status == 0:
         want("the output with status 0", told, whole_output(case))
-        want("the files with status 0", model.book_of(model.files_in(folder)), case.after)
+        want("the files with status 0", model.book_of(model.files_in(folder)), case.books[-1])
     elif status == 5:
         want("the output with status 5", told, b"fault source\n")
         want("the files with status 5", model.files_in(folder), case.files)
@@ -239,18 +244,24 @@ CALL = re.compile(r"\d+ +(\w+)\((.*)\) += (-?\d+|\?)")
 
 
 class Disk:
-    """What is durable of the files of a folder, from the calls of a run, with the contents that they had at each call."""
+    """The files of a folder as they read, and which of them a power cut may spoil."""
 
     def __init__(self, files):
         self.now = dict(files)
         self.file_synced, self.entry_synced, self.new_folders = {}, {}, set()
 
-    def change(self, name, content):
-        """A file is written or removed: until it is synced it may be absent or hold anything."""
-        self.now[name] = content
-        if content is None:
-            del self.now[name]
-        self.file_synced[name], self.entry_synced[name] = content is None, False
+    def does(self, what, name, content):
+        """A call of the run; `content` is what it writes."""
+        if what == "write":
+            self.now[name] = content
+            self.file_synced[name], self.entry_synced[name] = False, False
+        elif what == "remove":
+            self.now.pop(name, None)
+            self.file_synced[name], self.entry_synced[name] = True, False
+        elif what == "folder":
+            self.new_folders.add(name)
+        elif what == "sync":
+            self.sync(name)
 
     def sync(self, path):
         for name in self.file_synced:
@@ -267,8 +278,11 @@ class Disk:
     def pending(self):
         return [name for name in self.file_synced if self.is_pending(name)]
 
+    def settled(self):
+        return [name for name in self.file_synced if not self.is_pending(name)]
 
-def paths_of(lines, folder):
+
+def paths_of(lines):
     """The calls that changed or synced something, in order: what, and the name from the folder."""
     opened, found = {}, []
     for line in lines:
@@ -314,41 +328,35 @@ def cut_round(rng, home, program):
     told, status, lines = traced(folder, case, program, ["-s", "4096", "-e", f"trace={CALLS}"])
     want("a whole run", (status, told), (0, whole_output(case)))
     counts = collections.Counter()
-    finals = model.files_in(folder)
-    writes = {name: content for name, content in finals.items()}
-    writes[GATE.encode()] = b"OPEN"
-    disk, saved = Disk(case.files), False
-    durable = dict(case.files)
-    told_count = 0
-    for what, path in paths_of(lines, folder):
+    disk, tells = Disk(case.files), 0
+    durable, pending = dict(case.files), []
+    for what, path in paths_of(lines):
         name = in_folder(path) if path is not None else None
-        if what == "tell":
-            told_count += 1
-            saved = bool(case.script) and told_count >= 2
-        elif what == "write":
-            disk.change(name, writes.get(name, b""))
-        elif what == "remove":
-            if name in disk.now:
-                disk.change(name, None)
-            else:
-                disk.file_synced[name], disk.entry_synced[name] = True, disk.entry_synced.get(name, False)
-        elif what == "folder":
-            disk.new_folders.add(name)
-        elif what == "sync":
-            disk.sync(name)
+        tells += what == "tell"
+        saves = min(tells // 2, len(case.books) - 1)
+        disk.does(what, name, written(case, saves, name))
         pending = disk.pending()
-        for one in list(disk.file_synced):
-            if one not in pending:
-                durable.pop(one, None)
-                if one in disk.now:
-                    durable[one] = disk.now[one]
+        for one in disk.settled():
+            durable.pop(one, None)
+            if one in disk.now:
+                durable[one] = disk.now[one]
         for _ in range(3):
-            after_cut(rng, case, folder, durable, disk, pending, saved, program, counts)
-    want("what is pending at the end", [name for name in pending if name != JOURNAL.encode()], [])
+            after_cut(rng, case, folder, durable, disk, pending, saves, program, counts)
+    want("what is pending at the end", pending, [])
     return counts
 
 
-def after_cut(rng, case, folder, durable, disk, pending, saved, program, counts):
+def written(case, saves, name):
+    """What a run writes into a file after so many saves."""
+    if name == GATE.encode():
+        return b"OPEN"
+    book = case.books[min(saves + 1, len(case.books) - 1)]
+    if name == JOURNAL.encode():
+        return model.journal_of([(ROOT.encode(), book[ROOT.encode()])])
+    return book.get(name, b"")
+
+
+def after_cut(rng, case, folder, durable, disk, pending, saves, program, counts):
     """One thing that a power cut may leave, and the next run over it."""
     files = {name: content for name, content in durable.items() if name not in pending}
     for name in pending:
@@ -358,7 +366,7 @@ def after_cut(rng, case, folder, durable, disk, pending, saved, program, counts)
             files[name] = content
     model.put_files_anew(folder, files)
     try:
-        counts[check_folder(case, folder, b"burst 1\n" if saved else b"", program)] += 1
+        counts[check_folder(case, folder, saves, program)] += 1
     except Fault as fault:
         raise Fault(f"with {model.short(files)}, pending {pending}: {fault}") from fault
 
