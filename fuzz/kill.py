@@ -405,10 +405,24 @@ def named_journals(rng):
     return model.journal_of(items)
 
 
+def great_journal(rng):
+    """A journal round one of its limits: of items, of the bytes of a file, of its own bytes."""
+    way = rng.randrange(3)
+    if way == 0:
+        count = model.MOST_ITEMS - rng.randint(0, 1) + rng.randint(0, 1)
+        return model.journal_of([(b"%05d" % number, b"x" if number % 7 else None) for number in range(count)])
+    if way == 1:
+        return model.journal_of([(b"great.xml", b"x" * (model.MOST_FILE + rng.randint(-1, 1)))])
+    items = [(b"%02d" % number, b"x" * model.MOST_FILE) for number in range(16)]
+    left = model.MOST_JOURNAL - len(model.journal_of([*items, (b"99", b"")]))
+    return model.journal_of([*items, (b"99", b"y" * (left + rng.randint(-1, 1)))])
+
+
 def journal_round(rng, home, program):
     """A journal, spoiled or with an odd name, under an open gate: carried out exactly where it has a reading."""
     case = recovery_case(rng, 10, rng.choice((1, 2, 5)))
-    journal = spoiled(rng, case.files[JOURNAL.encode()]) if rng.random() < 0.6 else named_journals(rng)
+    kind = rng.random()
+    journal = great_journal(rng) if kind > 0.995 else spoiled(rng, case.files[JOURNAL.encode()]) if kind < 0.6 else named_journals(rng)
     files = {**case.files, JOURNAL.encode(): journal, ROOT.encode(): b"<a>root</a>"}
     if rng.random() < 0.05:
         del files[JOURNAL.encode()]
