@@ -6,12 +6,13 @@ use Rattle.std.proofs.lemmas.List.{append-nil}
 use Rattle.std.specs.List.{list_any}
 use Rattle.std.specs.Cmp.Lexicographic.{pointwise, bytes_decides}
 use Rattle.xt_spec.specs.Tree.{Items, source_text}
+use Rattle.bk_desk.specs.declared.desk_name.DeskName.TheVariants as desk_name
 use Rattle.bk_desk.specs.declared.desk_name.DeskName.TheVariants.{Gate}
 use Rattle.bk_desk.specs.Disk.{DiskImage, DiskState, CrashState, IsCrashImage, IsCrashState, NothingPending}
 use Rattle.bk_desk.specs.CrashPoints.{AtEachCrash}
 use Rattle.bk_desk.proofs.CrashPoints.{started}
-use Rattle.jr_burst.specs.SavedFiles.{Files, book_files, overlaid, is_open_gate, recovered_files}
-use Rattle.jr_burst.specs.Commit.{IsClosed}
+use Rattle.jr_burst.specs.SavedFiles.{Files, book_files, overlaid, names, is_open_gate, recovered_files}
+use Rattle.jr_burst.specs.Commit.{IsClosed, IsOldOrNew}
 use Rattle.jr_burst.proofs.Recovering.{closed_recovers}
 use Rattle.ed_spec.specs.Book.{Book, with_file, Opens}
 use Rattle.ed_spec.specs.Edit.{Edit}
@@ -151,12 +152,12 @@ other_file root name bytes book apart = by (pointwise nat_eq root name) refl
     by true is = absurd (apart (sym ((bytes_decides root name).0 is)))
     by false is = rw is refl
 
+some_same : (x y : List ℕ) → Some x ≡ Some y → x ≡ y
+some_same x y e = cc
+
 one_differs : (a b : Book) (root bytes saved : List ℕ) → a ≡ with_file root bytes b → b root ≡ Some saved → bytes ≢ saved → AreDifferences a b (root ∷ [])
 one_differs a b root bytes saved is there other =
     names_root a b root (λ same. other (some_same bytes saved (sym (ap (λ (book : Book). book root) is ∙ file_there root bytes b) ∙ same ∙ there))) (λ name apart. ap (λ (book : Book). book name) is ∙ other_file root name bytes b apart)
-  where
-    some_same : (x y : List ℕ) → Some x ≡ Some y → x ≡ y
-    some_same x y e = cc
 
 saved_stands : (k now : Kept) (disk : DiskState) (s : Session) (names : List (List ℕ)) (count : ℕ) → Stands k disk s → now ≡ record { root = k.root; bytes = k.bytes; saved = k.bytes }
     → (new : DiskState) → book_files new.files ≡ s.book → is_open_gate (new.files Gate) ≡ false → NothingPending new → AreDifferences s.book s.saved names → count ≡ length names → IsDone k.root s burst (saved_files count) now new
@@ -190,31 +191,53 @@ stands_recovers k disk s image stands is =
     let same : image ≡ disk.files = fun_ext (λ name. is name (stands.durable name)) in
     ap recovered_files same ∙ closed_recovers disk.files stands.gate ∙ ap (λ (f : Files). Some f) stands.book
 
+-- a crash leaves each file as it was saved
+pub stands_holds : (k : Kept) (disk : DiskState) (s : Session) (image : DiskImage) → Stands k disk s → IsCrashImage disk image → (name : List ℕ) → image (desk_name.Book name) ≡ s.saved name
+stands_holds k disk s image stands is name = is (desk_name.Book name) (stands.durable (desk_name.Book name)) ∙ ap (λ (f : Files). f name) stands.book
+
 burst_saves : (root : List ℕ) (s next : Session) (reply : Reply) → Does root s burst reply next → next.saved ≡ s.book
 burst_saves root s _ _ (saves names differ) = refl
 
-before_it : (k : Kept) (disk : DiskState) (s : Session) (after : Book) (reply : Reply) (crash : CrashState) → Stands k disk s → recovered_files crash.image ≡ Some s.saved → crash.told ≡ disk.told → MayStop disk s.saved after reply crash
-before_it k disk s after reply crash stands recovers told = record {
+before_it : (disk : DiskState) (s : Session) (after : Book) (reply : Reply) (crash : CrashState) → recovered_files crash.image ≡ Some s.saved → crash.told ≡ disk.told → ((name : List ℕ) → after name ≡ s.saved name → crash.image (desk_name.Book name) ≡ s.saved name)
+    → MayStop disk s.saved after reply crash
+before_it disk s after reply crash recovers told others = record {
   count = 0;
   told = told ∙ sym (append-nil disk.told);
   recovers = inr (refl, recovers);
+  others = others;
 }
 
 at_rest : (k : Kept) (disk : DiskState) (s : Session) (after : Book) (reply : Reply) (crash : CrashState) → Stands k disk s → IsCrashState disk crash → MayStop disk s.saved after reply crash
-at_rest k disk s after reply crash stands is = before_it k disk s after reply crash stands (stands_recovers k disk s crash.image stands is.image) is.told
+at_rest k disk s after reply crash stands is = before_it disk s after reply crash (stands_recovers k disk s crash.image stands is.image) is.told (λ name same. stands_holds k disk s crash.image stands is.image name)
+
+-- the root is written where it differs alone, and no other file is
+not_written : (k : Kept) (disk : DiskState) (s : Session) (after : Book) (crash : CrashState) → Stands k disk s → after ≡ s.book → k.bytes ≢ k.saved → IsOldOrNew disk (item_of k.root k.bytes ∷ []) crash
+    → (name : List ℕ) → after name ≡ s.saved name → crash.image (desk_name.Book name) ≡ s.saved name
+not_written k disk s after crash stands saved other is name same = by (pointwise nat_eq k.root name) refl
+  where
+    by : (here : Bool) → pointwise nat_eq k.root name ≡ here → crash.image (desk_name.Book name) ≡ s.saved name
+    by true e =
+        let at : k.root ≡ name = (bytes_decides k.root name).0 e in
+        let new : after name ≡ Some k.bytes = ap (λ (b : Book). b name) (saved ∙ stands.edited) ∙ sym (ap (with_file k.root k.bytes s.saved) at) ∙ file_there k.root k.bytes s.saved in
+        let old : s.saved name ≡ Some k.saved = sym (ap s.saved at) ∙ stands.root in
+        absurd (other (some_same k.bytes k.saved (sym new ∙ same ∙ old)))
+    by false e =
+        let unnamed : names (item_of k.root k.bytes ∷ []) name ≡ false = rw e refl in
+        is.others name unnamed (stands.durable (desk_name.Book name)) ∙ ap (λ (f : Files). f name) stands.book
 
 bursting : (k : Kept) (disk : DiskState) (s next : Session) (reply : Reply) (crash : CrashState) → Stands k disk s → next.saved ≡ s.book → MayCrashInBurst k disk crash → MayStop disk s.saved next.saved reply crash
 bursting k disk s next reply crash stands saved (inr is) = at_rest k disk s next.saved reply crash stands is
 bursting k disk s next reply crash stands saved (inl (other, is)) = ⊎_elim old new is.recovers
   where
     old : ((image : DiskImage) × IsCrashImage disk image × (recovered_files crash.image ≡ recovered_files image)) → MayStop disk s.saved next.saved reply crash
-    old (image, is_image, same) = before_it k disk s next.saved reply crash stands (same ∙ stands_recovers k disk s image stands is_image) is.told
+    old (image, is_image, same) = before_it disk s next.saved reply crash (same ∙ stands_recovers k disk s image stands is_image) is.told (not_written k disk s next.saved crash stands saved other is)
 
     new : recovered_files crash.image ≡ Some (overlaid (item_of k.root k.bytes ∷ []) (book_files disk.files)) → MayStop disk s.saved next.saved reply crash
     new e = record {
       count = 0;
       told = is.told ∙ sym (append-nil disk.told);
       recovers = inl (e ∙ ap (λ (f : Book). Some (with_file k.root k.bytes f)) stands.book ∙ ap (λ (f : Book). Some f) (sym stands.edited ∙ sym saved));
+      others = not_written k disk s next.saved crash stands saved other is;
     }
 
 pub doing_stop : (root : List ℕ) (command : Command) (k : Kept) (disk : DiskState) (s next : Session) (reply : Reply) (crash : CrashState) → Stands k disk s → Does root s (asked_of command) reply next

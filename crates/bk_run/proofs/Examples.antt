@@ -1,8 +1,9 @@
 -- The definitions on small cases.
-use Rattle.std.proofs.Common.{◌≡◌, ◌≢◌, ◌∙◌, ℕ, List, [], ◌∷◌, ◌++◌, arith, true, false, Some, refl, sym, ap}
+use Rattle.std.proofs.Common.{◌≡◌, ◌≢◌, ◌∙◌, ℕ, List, [], ◌∷◌, ◌++◌, arith, true, false, Some, None, refl, sym, ap}
 use Rattle.std.specs.Prelude.{codes}
 use Rattle.std.specs.Fmt.{digits}
 use Rattle.std.specs.Str.{chars}
+use Rattle.bk_desk.specs.declared.desk_name.DeskName.TheVariants as desk_name
 use Rattle.bk_desk.specs.Disk.{DiskState, CrashState}
 use Rattle.jr_burst.specs.SavedFiles.{recovered_files}
 use Rattle.bk_script.specs.Command as script
@@ -10,7 +11,7 @@ use Rattle.ed_spec.specs.Book.{Book}
 use Rattle.ed_spec.specs.Edit.{text_edit, bad_text}
 use Rattle.ed_spec.specs.Session.{Session, Command, edit, burst, Reply, done, refused, nothing_to_undo, saved_files, Step}
 use Rattle.bk_run.specs.Replies.{IsCommandOf, AreCommandsOf, replies_text, any_refused}
-use Rattle.bk_run.specs.Stops.{IsCut, IsOfOneBurst}
+use Rattle.bk_run.specs.Stops.{IsCut, IsSameInAll, IsOfOneBurst}
 use Rattle.bk_run.proofs.StopLemmas.{told_is_saved}
 
 module _ (s : Session) where
@@ -38,6 +39,19 @@ module _ (s : Session) where
       let saved : recovered_files crash.image ≡ Some s.saved = told_is_saved start first (step (saved_files 1) ∷ []) [] crash is (told ∙ ap (λ (l : List ℕ). l ++ codes "burst 1\n") (sym none)) in
       let same : Some first ≡ Some s.saved = sym recovers ∙ saved in
       other (cc)
+
+  -- what each save leaves as it was is the same in all books saved, and what a save changes isn't
+  no_save_changes_it : (name : List ℕ) → IsSameInAll s.saved (step done ∷ step (saved_files 1) ∷ []) name
+  no_save_changes_it name = (refl, (refl, tt))
+
+  a_save_changes_it : (first : Book) (name : List ℕ) → s.saved name ≢ first name → IsSameInAll first (step done ∷ step (saved_files 1) ∷ []) name → ⊥
+  a_save_changes_it first name other is = other is.0
+
+  -- a file that no book saved has isn't there after a crash
+  made_by_no_save : (start : DiskState) (crash : CrashState) (name bytes : List ℕ) → s.saved name ≡ None → crash.image (desk_name.Book name) ≡ Some bytes → IsOfOneBurst start s.saved (step (saved_files 1) ∷ []) [] crash → ⊥
+  made_by_no_save start crash name bytes none there is =
+      let bad : None ≡ Some bytes = sym none ∙ sym (is.others name (refl, tt)) ∙ there in
+      cc
 
 -- `text /1/1 0 2 "a"` and `burst`
 two_are_asked : AreCommandsOf (script.edit_text record { numbers = 1 ∷ 1 ∷ []; carets = 0 } 0 2 (codes "a") ∷ script.burst ∷ []) (edit (text_edit (1 ∷ 1 ∷ []) 0 2 (97 ∷ [])) ∷ burst ∷ [])

@@ -200,14 +200,14 @@ answered root s burst books =
       books = record { book = record { opens = books.book.opens; others = λ name apart. refl }; past = edits_in root s.saved s.book s.past same books.past; future = edits_in root s.saved s.book s.future same books.future };
     }
 
-pub steps_exist : (root : List ℕ) (s : Session) (commands : List Command) → HasOpenBooks root s → (steps : List Step) × (last : Session) × DoesAll root s commands steps last
-steps_exist root s [] books = ([], s, nothing s)
+pub steps_exist : (root : List ℕ) (s : Session) (commands : List Command) → HasOpenBooks root s → (steps : List Step) × (last : Session) × DoesAll root s commands steps last × HasOpenBooks root last
+steps_exist root s [] books = ([], s, nothing s, books)
 steps_exist root s (command ∷ commands) books =
     let one = answered root s command books in
-    let (steps, last, does) = steps_exist root one.next commands one.books in
-    ((record { reply = one.reply; session = one.next }) ∷ steps, last, then s one.next last command commands one.reply steps one.does does)
+    let (steps, last, does, open_books) = steps_exist root one.next commands one.books in
+    ((record { reply = one.reply; session = one.next }) ∷ steps, last, then s one.next last command commands one.reply steps one.does does, open_books)
 
-pub opened_runs : (root bytes : List ℕ) (book : Book) (items : Items) (commands : List Command) → Opens root book bytes items → (steps : List Step) × (last : Session) × DoesAll root (opened root book) commands steps last
+pub opened_runs : (root bytes : List ℕ) (book : Book) (items : Items) (commands : List Command) → Opens root book bytes items → (steps : List Step) × (last : Session) × DoesAll root (opened root book) commands steps last × HasOpenBooks root last
 opened_runs root bytes book items commands opens = steps_exist root (opened root book) commands record {
   book = record { opens = (bytes, items, opens); others = λ name apart. refl };
   past = tt;

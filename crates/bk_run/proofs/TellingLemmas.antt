@@ -3,6 +3,7 @@ use Rattle.std.proofs.Common.{◌≡◌, ◌≤◌, ◌<◌, ◌+◌, ◌∙◌,
 use Rattle.std.proofs.Math.Seq.{take-append-add, take-length}
 use Rattle.std.proofs.lemmas.Bool.{cases_lt}
 use Rattle.std.proofs.lemmas.List.{append-nil, take_all, take-append-le, length-take-le, drop_more, map_more, take-append-drop, map-append}
+use Rattle.bk_desk.specs.declared.desk_name.DeskName.TheVariants as desk_name
 use Rattle.bk_desk.specs.declared.desk_name.DeskName.TheVariants.{Gate}
 use Rattle.bk_desk.specs.Disk.{DiskState, CrashState, IsCrashState, WhileTelling, Tells, TellsPrefix}
 use Rattle.bk_desk.specs.CrashPoints.{AtEachCrash}
@@ -18,10 +19,10 @@ use Rattle.bk_script.specs.declared.command.Command.TheVariants as code
 use Rattle.bk_script.specs.declared.op.Op.TheVariants as op
 use Rattle.bk_script.specs.View.{command_of}
 use Rattle.bk_run.specs.Replies.{AreCommandsOf, IsCommandOf, reply_text, replies_text, is_refusal, any_refused}
-use Rattle.bk_run.specs.Stops.{saved_after, IsCut, IsOfOneBurst}
+use Rattle.bk_run.specs.Stops.{saved_after, IsCut, IsSameInAll, IsOfOneBurst}
 use Rattle.bk_run.specs.Doing.{asked_of, Stands, IsDone, MayCrashIn}
 use Rattle.bk_run.specs.Telling.{IsTold, AreTold, MayStop}
-use Rattle.bk_run.proofs.DoingLemmas.{stands_recovers, doing_stop}
+use Rattle.bk_run.proofs.DoingLemmas.{stands_recovers, stands_holds, doing_stop}
 
 -- ---- what the commands of the code ask
 
@@ -80,6 +81,15 @@ any_refused-push (first ∷ whole) step = ap (λ (b : Bool). is_refusal first.re
 saved_after-push : (first : Book) (whole : List Step) (step : Step) → saved_after first (whole ++ step ∷ []) ≡ step.session.saved
 saved_after-push first [] step = refl
 saved_after-push first (one ∷ whole) step = saved_after-push one.session.saved whole step
+
+-- a file that is the same in all books saved is so in those saved by some steps, and in the last of them
+same_in_front : (first : Book) (whole rest : List Step) (name : List ℕ) → IsSameInAll first (whole ++ rest) name → IsSameInAll first whole name × IsSameInAll first rest name
+same_in_front first [] rest name are = (tt, are)
+same_in_front first (step ∷ whole) rest name (is, are) = let parts = same_in_front first whole rest name are in ((is, parts.0), parts.1)
+
+same_after : (first book : Book) (steps : List Step) (name : List ℕ) → book name ≡ first name → IsSameInAll first steps name → saved_after book steps name ≡ first name
+same_after first book [] name same are = same
+same_after first book (step ∷ steps) name same (is, are) = same_after first step.session.saved steps name is are
 
 -- ---- sessions
 
@@ -164,6 +174,7 @@ telling_stop root s next command reply given k old mid crash is does same tells 
       count = tells.told.0;
       told = tells.told.1 ∙ ap₂ (λ (l : List ℕ) (r : Reply). l ++ take tells.told.0 (reply_text r)) same one.0;
       recovers = inl (stands_recovers k mid is.next crash.image is.stands tells.image ∙ ap (λ (s : Session). Some s.saved) one.1);
+      others = λ name same. stands_holds k mid is.next crash.image is.stands tells.image name ∙ ap (λ (s : Session). s.saved name) one.1 ∙ same;
     }
 
 -- ---- the replies so far
@@ -235,6 +246,7 @@ stop_at_start k start s steps more crash stands is = record {
   told = is.told ∙ sym (append-nil start.told);
   cut = none_cut steps;
   recovers = inl (stands_recovers k start s crash.image stands is.image);
+  others = λ name same. stands_holds k start s crash.image stands is.image name;
 }
 
 -- a crash at the next command, behind the replies so far
@@ -248,6 +260,12 @@ stop_later start now first before whole rest steps step more crash parts so_far 
     told_is : crash.told ≡ start.told ++ (replies_text whole ++ take is.count text)
     told_is = is.told ∙ ap (λ (l : List ℕ). l ++ take is.count text) so_far ∙ append_assoc start.told (replies_text whole) (take is.count text)
 
+    others : (name : List ℕ) → IsSameInAll first steps name → crash.image (desk_name.Book name) ≡ first name
+    others name same =
+        let are = same_in_front first whole (step ∷ rest) name (subst (λ (l : List Step). IsSameInAll first l name) parts same) in
+        let was : before name ≡ first name = ap (λ (b : Book). b name) (sym saved) ∙ same_after first first whole name refl are.0 in
+        is.others name (are.1.0 ∙ sym was) ∙ was
+
     cut : is.count < length text → IsOfOneBurst start first steps more crash
     cut lt =
         let taken : take is.count ((text ++ replies_text rest) ++ more) ≡ take is.count text = ap (take is.count) (append_assoc text (replies_text rest) more) ∙ take-append-le is.count text (replies_text rest ++ more) (omega (arith, lt)) in
@@ -259,6 +277,7 @@ stop_later start now first before whole rest steps step more crash parts so_far 
           told = told_is ∙ ap (λ (l : List ℕ). start.told ++ (replies_text whole ++ l)) (sym taken);
           cut = subst (λ (l : List ℕ). length l < length text) (sym taken) (omega (arith, lt, length-take-le is.count text (omega (arith, lt))));
           recovers = ⊎_elim (λ (e : recovered_files crash.image ≡ Some step.session.saved). inr e) (λ (e : (is.count ≡ 0) × (recovered_files crash.image ≡ Some before)). inl (e.1 ∙ ap (λ (b : Book). Some b) (sym saved))) is.recovers;
+          others = others;
         }
 
     all : length text ≤ is.count → IsOfOneBurst start first steps more crash
@@ -270,6 +289,7 @@ stop_later start now first before whole rest steps step more crash parts so_far 
       told = told_is ∙ ap (λ (l : List ℕ). start.told ++ l) (ap (λ (l : List ℕ). replies_text whole ++ l) (take_all is.count text le) ∙ sym (replies_text-push whole step) ∙ sym (append-nil (replies_text (whole ++ step ∷ []))));
       cut = none_cut rest;
       recovers = inl (⊎_elim (λ (e : recovered_files crash.image ≡ Some step.session.saved). e) (λ (e : (is.count ≡ 0) × (recovered_files crash.image ≡ Some before)). absurd (never e.0)) is.recovers ∙ ap (λ (b : Book). Some b) (sym (saved_after-push first whole step)));
+      others = others;
     }
       where
         never : is.count ≡ 0 → ⊥
@@ -286,6 +306,7 @@ stop_last k start now first last steps more crash stands told saved is = record 
   told = is.told.1 ∙ ap (λ (l : List ℕ). l ++ take is.told.0 more) told ∙ append_assoc start.told (replies_text steps) (take is.told.0 more);
   cut = tt;
   recovers = inl (stands_recovers k now last crash.image stands is.image ∙ ap (λ (b : Book). Some b) (sym saved));
+  others = λ name same. stands_holds k now last crash.image stands is.image name ∙ ap (λ (b : Book). b name) (sym saved) ∙ same_after first first steps name refl same;
 }
 
 -- ---- the loop

@@ -2,10 +2,12 @@
 --
 --   saved_after    the book last saved after these steps; saved_next: after the next of them
 --   IsCut          a front of what is told next, which is not all of the next reply
+--   IsSameInAll    a file that is in each book saved as it was in the first
 --   IsOfOneBurst   the files of one save are recovered, and what was told is a front of the output
 --   IsStopped      .. or nothing was told, and the files are as a crash at the start could have left them
 --   IsUntouched    the files are as a crash at the start could have left them
 use Rattle.std.specs.Prelude.{◌≡◌, ◌⊎◌, ℕ, ◌<◌, List, [], ◌∷◌, ◌++◌, length, take, Some}
+use Rattle.bk_desk.specs.declared.desk_name.DeskName.TheVariants as desk_name
 use Rattle.bk_desk.specs.Disk.{DiskState, CrashState, IsCrashImage}
 use Rattle.ed_spec.specs.Book.{Book}
 use Rattle.ed_spec.specs.Session.{Step}
@@ -27,8 +29,14 @@ abbrev pub IsCut : List ℕ → List Step → Type 0
 IsCut front [] = Unit {0}
 IsCut front (step ∷ steps) = length front < length (reply_text step.reply)
 
+-- each book saved has at this name what the first has
+abbrev pub IsSameInAll : Book → List Step → List ℕ → Type 0
+IsSameInAll first [] name = Unit {0}
+IsSameInAll first (step ∷ steps) name = (step.session.saved name ≡ first name) × IsSameInAll first steps name
+
 -- Some replies were told whole, and of what comes next a front that is not all of the next reply. The files recovered are
 -- those last saved by the commands whose replies were told whole, or by the next command too, where that is a burst.
+-- A file that is the same in all books saved is on the disk as it was.
 pub record IsOfOneBurst (start : DiskState) (first : Book) (steps : List Step) (last : List ℕ) (crash : CrashState) : Type 0 where
   pub whole : List Step
   pub rest : List Step
@@ -37,6 +45,7 @@ pub record IsOfOneBurst (start : DiskState) (first : Book) (steps : List Step) (
   pub told : crash.told ≡ start.told ++ (replies_text whole ++ take count (replies_text rest ++ last))
   pub cut : IsCut (take count (replies_text rest ++ last)) rest
   pub recovers : (recovered_files crash.image ≡ Some (saved_after first whole)) ⊎ (recovered_files crash.image ≡ Some (saved_next (saved_after first whole) rest))
+  pub others : (name : List ℕ) → IsSameInAll first steps name → crash.image (desk_name.Book name) ≡ first name
 
 -- where something was pending at the start and nothing was told, the files may be as a crash at the start could have left them
 abbrev pub IsStopped : DiskState → Book → List Step → List ℕ → CrashState → Type 0

@@ -4,6 +4,7 @@
 --   AreTold   commands were, the first of them first, and all their replies
 --   MayStop   a crash at any point of one command
 use Rattle.std.specs.Prelude.{◌≡◌, ◌⊎◌, ℕ, List, ◌++◌, take, Bool, Some}
+use Rattle.bk_desk.specs.declared.desk_name.DeskName.TheVariants as desk_name
 use Rattle.bk_desk.specs.Disk.{DiskState, CrashState}
 use Rattle.jr_burst.specs.SavedFiles.{recovered_files}
 use Rattle.ed_spec.specs.Book.{Book}
@@ -29,7 +30,9 @@ pub record AreTold (root : List ℕ) (s : Session) (commands : List Command) (k 
   pub refused_is : is_refused ≡ any_refused steps
 
 -- A front of the reply was told. The files recovered are those last saved after the command, or, where nothing was told, before it.
+-- A file that the command leaves as it was saved is on the disk so.
 pub record MayStop (start : DiskState) (before after : Book) (reply : Reply) (crash : CrashState) : Type 0 where
   pub count : ℕ
   pub told : crash.told ≡ start.told ++ take count (reply_text reply)
   pub recovers : (recovered_files crash.image ≡ Some after) ⊎ ((count ≡ 0) × (recovered_files crash.image ≡ Some before))
+  pub others : (name : List ℕ) → after name ≡ before name → crash.image (desk_name.Book name) ≡ before name

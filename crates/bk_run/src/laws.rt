@@ -28,12 +28,13 @@ pub fn commands_ask()
     ensures value { (commands : List Command) (asked : List model.Command) → AreCommandsOf (map command_of commands) asked → asked ≡ map asked_of commands }
 {}
 
-/// Where the root opens, commands have replies: `value` says so of a session in which nothing was done.
+/// Where the root opens, commands have replies, and the books of the session afterwards open too: `value` says so of a
+/// session in which nothing was done.
 pub fn steps_exist()
     ensures law { (root : List ℕ) (s : model.Session) (commands : List model.Command) → HasOpenBooks root s
-        → (steps : List model.Step) × (last : model.Session) × model.DoesAll root s commands steps last }
+        → (steps : List model.Step) × (last : model.Session) × model.DoesAll root s commands steps last × HasOpenBooks root last }
     ensures value { (root bytes : List ℕ) (book : Book) (items : Items) (commands : List model.Command) → Opens root book bytes items
-        → (steps : List model.Step) × (last : model.Session) × model.DoesAll root (model.opened root book) commands steps last }
+        → (steps : List model.Step) × (last : model.Session) × model.DoesAll root (model.opened root book) commands steps last × HasOpenBooks root last }
 {}
 
 /// Where all replies were told, the files recovered are those last saved.

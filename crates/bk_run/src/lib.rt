@@ -14,6 +14,7 @@ mod telling;
 
 pub use input::{InputFault, read_input};
 pub use laws::{commands_ask, start_stands, steps_exist, told_is_saved};
+pub use replies::{line, numbered};
 pub use stop::Stop;
 pub use telling::tell_replies;
 

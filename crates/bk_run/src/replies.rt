@@ -30,7 +30,7 @@ fn name_of(refusal: Refusal) -> &'static [u8]
 }
 
 /// A front, a text and LF.
-pub(crate) fn line(alloc: Global, front: &[u8], text: &[u8]) -> Result<Vec<u8>, AllocError>
+pub fn line(alloc: Global, front: &[u8], text: &[u8]) -> Result<Vec<u8>, AllocError>
     ensures value { IfOk result (λ line. line.items ≡ front.now ++ text.now ++ codes "\n") }
 {
     let mut line = Vec::from_slice(alloc, front)?;
@@ -40,7 +40,7 @@ pub(crate) fn line(alloc: Global, front: &[u8], text: &[u8]) -> Result<Vec<u8>, 
 }
 
 /// A front, a number in decimal digits and LF.
-pub(crate) fn numbered(alloc: Global, front: &[u8], number: u32) -> Result<Vec<u8>, AllocError>
+pub fn numbered(alloc: Global, front: &[u8], number: u32) -> Result<Vec<u8>, AllocError>
     ensures value { IfOk result (λ line. line.items ≡ front.now ++ decimal number ++ codes "\n") }
 {
     let mut buffer = Buffer::new();

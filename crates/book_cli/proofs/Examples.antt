@@ -2,11 +2,8 @@
 use Rattle.std.proofs.Common.{◌≡◌, ℕ, List, [], ◌∷◌, refl, codes, true, false, Option, Some, None}
 use Rattle.std.specs.Str.{is_utf8, chars}
 use Rattle.std.proofs.Math.Utf8.{encode}
-use Rattle.bk_desk.specs.declared.desk_name.DeskName.{DeskName}
 use Rattle.bk_name.specs.FileName.{is_file_name}
 use Rattle.book_cli.specs.Words.{is_root, root_of}
-use Rattle.book_cli.specs.Output.{FileOutput, missing, IsOutput, usage_line}
-use Rattle.book_cli.specs.Effects.{file_steps}
 use Rattle.book_cli.specs.RealFiles.{synced_with, IsFrontOf}
 
 -- no words and two words have no reading, whatever they are
@@ -34,21 +31,6 @@ parent_folder = refl
 control_file : is_root (codes ".burst-gate") ≡ false
 unfolding is_file_name is_utf8 chars encode
 control_file = refl
-
--- without words the usage line, and no other
-usage : (files : DeskName → Option (List ℕ)) → IsOutput [] files 2 usage_line
-usage files = (refl, refl)
-
-no_other : (files : DeskName → Option (List ℕ)) → IsOutput [] files 3 usage_line → ⊥
-no_other files output = let bad : ◌≡◌ {A = ℕ} 3 2 = output.0 in absurd (cc)
-
--- a file that isn't there
-absent : FileOutput (codes "a.xml") None 3 (codes "fault Missing a.xml\n")
-absent = missing refl refl refl
-
--- a step a byte
-steps : file_steps (Some (codes "<a/>")) ≡ 4
-steps = refl
 
 -- with a file each folder above it is synced; with one of no folder the current one alone
 folders : synced_with (codes "a/b/c") ≡ codes "a/b/c" ∷ codes "a" ∷ codes "a/b" ∷ codes "." ∷ []

@@ -1,5 +1,9 @@
-pub mod RunLemmas
 pub mod OutputLemmas
-pub mod RunOutputLemmas
+pub mod ToldLemmas
+pub mod TreeLemmas
+pub mod SessionLemmas
+pub mod RunLemmas
+pub mod InputLemmas
+pub mod EndLemmas
 pub mod Examples
 pub mod RunExamples

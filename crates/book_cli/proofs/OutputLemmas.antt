@@ -1,47 +1,203 @@
--- Words and files give the same output.
-use Rattle.std.proofs.Common.{◌≡◌, ◌∙◌, ℕ, List, sym, ap, subst, Option, Some, None}
+-- Words, script and files give one output.
+use Rattle.std.proofs.Common.{◌≡◌, ◌∙◌, ℕ, List, [], ◌∷◌, ◌++◌, refl, sym, ap, ap₂, subst, Option, Some, None, inl, inr}
 use Rattle.xt_spec.specs.Tree.{Items}
 use Rattle.xt_spec.specs.Plain.{IsPlainDocument}
+use Rattle.xt_spec.specs.Reading.{document, IsReading}
+use Rattle.xt_read.proofs.Theorems.{one_tree}
 use Rattle.bk_spec.specs.Node.{Nodes}
 use Rattle.bk_spec.specs.PlainNodes.{GivesNodes}
 use Rattle.bk_spec.specs.Print.{print_tree}
-use Rattle.xt_read.proofs.Theorems.{one_tree}
-use Rattle.bk_place.proofs.Theorems.{nodes_unique}
-use Rattle.bk_desk.specs.declared.desk_name.DeskName.{DeskName}
-use Rattle.bk_desk.specs.declared.desk_name.DeskName.TheVariants.{Book}
+use Rattle.bk_place.proofs.Theorems.{document_nodes, nodes_unique}
+use Rattle.ed_spec.specs.Book.{Book, Opens}
+use Rattle.ed_spec.specs.Session.{Session, Command, Reply, Step, opened, Does, accepts, refuses, undoes, undoes_nothing, redoes, redoes_nothing, saves, DoesAll, nothing, then}
+use Rattle.ed_laws.proofs.Theorems.{one_run}
+use Rattle.bk_desk.specs.Disk.{DiskImage}
+use Rattle.bk_script.specs.Command as script
+use Rattle.bk_script.specs.Script.{IsScript, IsFaultOf}
+use Rattle.bk_script.specs.declared.script.ScriptFault.{ScriptFault}
+use Rattle.bk_script.specs.declared.script.ScriptFault.TheVariants.{Long, BadLine, Many, NoMemory}
+use Rattle.bk_script.proofs.Scripts.{one_reading, no_fault, one_fault}
+use Rattle.jr_burst.specs.SavedFiles.{recovered_files}
+use Rattle.bk_run.specs.Replies.{IsCommandOf, AreCommandsOf, replies_text}
 use Rattle.book_cli.specs.Words.{root_of}
-use Rattle.book_cli.specs.Output.{FileOutput, missing, not_yet, opened, RootOutput, IsOutput, file_uri}
+use Rattle.book_cli.specs.Output.{IsScriptLine, file_uri, IsTree, status_after, IsRun, IsBookRun, missing, not_yet, ran, BookOutput, ScriptOutput, no_script, damaged, recovered, RootOutput, IsOutput}
 
--- a document reads as one tree
-documents_unique : (bytes : List ℕ) (a b : Items) → IsPlainDocument bytes a → IsPlainDocument bytes b → a ≡ b
-documents_unique bytes a b first second = one_tree bytes a b first.reading second.reading
+pub some_same : (A : Type 0) (a b : A) (found : Option A) → found ≡ Some a → found ≡ Some b → a ≡ b
+some_same A a b found first second = let e : ◌≡◌ {A = Option A} (Some a) (Some b) = sym first ∙ second in cc
 
-some_same : (a b : List ℕ) (found : Option (List ℕ)) → found ≡ Some a → found ≡ Some b → a ≡ b
-some_same a b found first second = let e : ◌≡◌ {A = Option (List ℕ)} (Some a) (Some b) = sym first ∙ second in cc
+pub none_some : (A : Type 0) (a : A) (found : Option A) → found ≡ None → found ≡ Some a → ⊥
+none_some A a found first second = let e : ◌≡◌ {A = Option A} None (Some a) = sym first ∙ second in cc
 
-file_unique : (file : List ℕ) (found : Option (List ℕ)) (s t : ℕ) (x y : List ℕ)
-    → FileOutput file found s x → FileOutput file found t y → (s ≡ t) × (x ≡ y)
-file_unique file found s t x y (missing a b c) (missing d e f) = (b ∙ sym e, c ∙ sym f)
-file_unique file found s t x y (missing a b c) (not_yet bytes d e f g) = let bad : ◌≡◌ {A = Option (List ℕ)} None (Some bytes) = sym a ∙ d in absurd (cc)
-file_unique file found s t x y (missing a b c) (opened bytes items nodes d e f g h) = let bad : ◌≡◌ {A = Option (List ℕ)} None (Some bytes) = sym a ∙ d in absurd (cc)
-file_unique file found s t x y (not_yet bytes d e f g) (missing a b c) = let bad : ◌≡◌ {A = Option (List ℕ)} None (Some bytes) = sym a ∙ d in absurd (cc)
-file_unique file found s t x y (opened bytes items nodes d e f g h) (missing a b c) = let bad : ◌≡◌ {A = Option (List ℕ)} None (Some bytes) = sym a ∙ d in absurd (cc)
-file_unique file found s t x y (not_yet bytes a b c d) (not_yet others e f g h) = (c ∙ sym g, d ∙ sym h)
-file_unique file found s t x y (not_yet bytes a b c d) (opened others items nodes e f g h i) =
-    absurd (b items (subst (λ (l : List ℕ). IsPlainDocument l items) (some_same others bytes found e a) f))
-file_unique file found s t x y (opened others items nodes e f g h i) (not_yet bytes a b c d) =
-    absurd (b items (subst (λ (l : List ℕ). IsPlainDocument l items) (some_same others bytes found e a) f))
-file_unique file found s t x y (opened bytes items nodes a b c d e) (opened others items_b nodes_b f g h i j) =
-    let same : items ≡ items_b = documents_unique others items items_b (subst (λ (l : List ℕ). IsPlainDocument l items) (some_same bytes others found a f) b) g in
-    let nodes_same : nodes ≡ nodes_b = nodes_unique file (file_uri file) items_b nodes nodes_b (subst (λ (l : Items). GivesNodes file (file_uri file) l nodes) same c) h in
-    (d ∙ sym i, e ∙ ap (λ (n : Nodes). print_tree n) nodes_same ∙ sym j)
+-- ---- commands
 
-root_unique : (root : Option (List ℕ)) (files : DeskName → Option (List ℕ)) (s t : ℕ) (x y : List ℕ)
-    → RootOutput root files s x → RootOutput root files t y → (s ≡ t) × (x ≡ y)
-root_unique None files s t x y first second = (first.0 ∙ sym second.0, first.1 ∙ sym second.1)
-root_unique (Some file) files s t x y first second = file_unique file (files (Book file)) s t x y first second
+command_once : (command : script.Command) (x y : Command) → IsCommandOf command x → IsCommandOf command y → x ≡ y
+command_once (script.edit_text place from to value) x y first second = first ∙ sym second
+command_once (script.put place side fragment) x y first second = absurd first
+command_once (script.attr place name value) x y first second = absurd first
+command_once (script.drop_attr place name) x y first second = absurd first
+command_once (script.insert place side fragment) x y first second = absurd first
+command_once (script.insert_at place index fragment) x y first second = absurd first
+command_once (script.delete place) x y first second = absurd first
+command_once (script.move place to side) x y first second = absurd first
+command_once (script.extract place name) x y first second = absurd first
+command_once (script.inline place) x y first second = absurd first
+command_once script.undo x y first second = first ∙ sym second
+command_once script.redo x y first second = first ∙ sym second
+command_once script.burst x y first second = first ∙ sym second
+command_once script.tree x y first second = absurd first
+command_once (script.owner place) x y first second = absurd first
 
--- words and files give one status and one output
-pub output_unique : (words : List (List ℕ)) (files : DeskName → Option (List ℕ)) (s t : ℕ) (x y : List ℕ)
-    → IsOutput words files s x → IsOutput words files t y → (s ≡ t) × (x ≡ y)
-output_unique words files s t x y first second = root_unique (root_of words) files s t x y first second
+-- commands of a script ask one list of commands of the session
+asked_once : (commands : List script.Command) (xs ys : List Command) → AreCommandsOf commands xs → AreCommandsOf commands ys → xs ≡ ys
+asked_once [] xs ys first second = first ∙ sym second
+asked_once (command ∷ commands) [] ys first second = absurd first
+asked_once (command ∷ commands) (x ∷ xs) [] first second = absurd second
+asked_once (command ∷ commands) (x ∷ xs) (y ∷ ys) first second = ap₂ (λ (c : Command) (l : List Command). c ∷ l) (command_once command x y first.0 second.0) (asked_once commands xs ys first.1 second.1)
+
+-- ---- the tree of a book
+
+pub tree_once : (root : List ℕ) (book : Book) (x y : List ℕ) → IsTree root book x → IsTree root book y → x ≡ y
+tree_once root book x y a b =
+    let bytes : a.bytes ≡ b.bytes = some_same (List ℕ) a.bytes b.bytes (book root) a.opens.found b.opens.found in
+    let items : a.items ≡ b.items = one_tree b.bytes a.items b.items (subst (λ (t : List ℕ). IsReading document t a.items) bytes a.opens.plain.reading) b.opens.plain.reading in
+    let nodes : a.nodes ≡ b.nodes = nodes_unique root (file_uri root) b.items a.nodes b.nodes (subst (λ (i : Items). GivesNodes root (file_uri root) i a.nodes) items a.gives) b.gives in
+    a.printed ∙ ap (λ (n : Nodes). print_tree n) nodes ∙ sym b.printed
+
+-- ---- a run
+
+run_once : (root : List ℕ) (commands : List script.Command) (book : Book) (xs ys : List Step) (x y : List ℕ)
+    → IsRun root commands book xs x → IsRun root commands book ys y → (xs ≡ ys) × (x ≡ y)
+run_once root commands book xs ys x y a b =
+    let asked : a.asked ≡ b.asked = asked_once commands a.asked b.asked a.asks b.asks in
+    let run = one_run root (opened root book) a.last b.last b.asked xs ys (subst (λ (l : List Command). DoesAll root (opened root book) l xs a.last) asked a.does) b.does in
+    (run.0, tree_once root b.last.book x y (subst (λ (s : Session). IsTree root s.book x) run.1 a.shows) b.shows)
+
+-- a session of a book whose root doesn't open, in which nothing was edited
+record IsShut (root : List ℕ) (s : Session) : Type 0 where
+  never : (bytes : List ℕ) (items : Items) → Opens root s.book bytes items → ⊥
+  past : s.past ≡ []
+  future : s.future ≡ []
+
+none_first : (books others : List Book) (book : Book) → books ≡ [] → books ≡ book ∷ others → ⊥
+none_first books others book first second = let bad : [] ≡ book ∷ others = sym first ∙ second in cc
+
+stays_shut : (root : List ℕ) (s next : Session) (command : Command) (reply : Reply) → Does root s command reply next → IsShut root s → IsShut root next
+stays_shut root s _ _ _ (accepts e next x) shut = absurd (shut.never x.0 x.1 x.3)
+stays_shut root s _ _ _ (refuses e refusal x) shut = absurd (shut.never x.0 x.1 x.2)
+stays_shut root s _ _ _ (undoes book past is) shut = absurd (none_first s.past past book shut.past is)
+stays_shut root s _ _ _ (undoes_nothing is) shut = shut
+stays_shut root s _ _ _ (redoes book future is) shut = absurd (none_first s.future future book shut.future is)
+stays_shut root s _ _ _ (redoes_nothing is) shut = shut
+stays_shut root s _ _ _ (saves names are) shut = record { never = shut.never; past = shut.past; future = shut.future }
+
+ends_shut : (root : List ℕ) (s last : Session) (commands : List Command) (steps : List Step) → DoesAll root s commands steps last → IsShut root s → IsShut root last
+ends_shut root _ _ _ _ (nothing s) shut = shut
+ends_shut root _ _ _ _ (then s next last command commands reply steps does all) shut = ends_shut root next last commands steps all (stays_shut root s next command reply does shut)
+
+-- no run is over a book whose root doesn't open
+no_run : (root : List ℕ) (commands : List script.Command) (book : Book) (steps : List Step) (tree : List ℕ)
+    → ((bytes : List ℕ) (items : Items) → Opens root book bytes items → ⊥) → IsRun root commands book steps tree → ⊥
+no_run root commands book steps tree never run =
+    let shut : IsShut root run.last = ends_shut root (opened root book) run.last run.asked steps run.does (record { never = never; past = refl; future = refl }) in
+    shut.never run.shows.bytes run.shows.items run.shows.opens
+
+missing_shut : (root : List ℕ) (book : Book) → book root ≡ None → (bytes : List ℕ) (items : Items) → Opens root book bytes items → ⊥
+missing_shut root book none bytes items opens = none_some (List ℕ) bytes (book root) none opens.found
+
+not_yet_shut : (root : List ℕ) (book : Book) (content : List ℕ) → book root ≡ Some content → ((items : Items) → ¬ IsPlainDocument content items) → (bytes : List ℕ) (items : Items) → Opens root book bytes items → ⊥
+not_yet_shut root book content found never bytes items opens =
+    never items (subst (λ (l : List ℕ). IsPlainDocument l items) (some_same (List ℕ) bytes content (book root) opens.found found) opens.plain)
+
+-- ---- the output
+
+-- replies, what is told behind them and the status are the same
+pub record AreSame (steps others : List Step) (last more : List ℕ) (status other : ℕ) : Type 0 where
+  pub steps_are : steps ≡ others
+  pub last_is : last ≡ more
+  pub status_is : status ≡ other
+
+pub one_book_run : (root : List ℕ) (commands : List script.Command) (book : Book) (xs ys : List Step) (x y : List ℕ) (s t : ℕ)
+    → IsBookRun root commands book xs x s → IsBookRun root commands book ys y t → AreSame xs ys x y s t
+one_book_run root commands book xs ys x y s t (missing none no_steps line is) (missing _ empty other same) = record { steps_are = no_steps ∙ sym empty; last_is = line ∙ sym other; status_is = is ∙ sym same }
+one_book_run root commands book xs ys x y s t (missing none no_steps line is) (not_yet bytes found never empty other same) = absurd (none_some (List ℕ) bytes (book root) none found)
+one_book_run root commands book xs ys x y s t (not_yet bytes found never empty other same) (missing none no_steps line is) = absurd (none_some (List ℕ) bytes (book root) none found)
+one_book_run root commands book xs ys x y s t (not_yet _ _ _ no_steps line is) (not_yet _ _ _ empty other same) = record { steps_are = no_steps ∙ sym empty; last_is = line ∙ sym other; status_is = is ∙ sym same }
+one_book_run root commands book xs ys x y s t (missing none _ _ _) (ran run _) = absurd (no_run root commands book ys y (missing_shut root book none) run)
+one_book_run root commands book xs ys x y s t (ran run _) (missing none _ _ _) = absurd (no_run root commands book xs x (missing_shut root book none) run)
+one_book_run root commands book xs ys x y s t (not_yet bytes found never _ _ _) (ran run _) = absurd (no_run root commands book ys y (not_yet_shut root book bytes found never) run)
+one_book_run root commands book xs ys x y s t (ran run _) (not_yet bytes found never _ _ _) = absurd (no_run root commands book xs x (not_yet_shut root book bytes found never) run)
+one_book_run root commands book xs ys x y s t (ran run is) (ran more same) =
+    let one = run_once root commands book xs ys x y run more in
+    record { steps_are = one.0; last_is = one.1; status_is = is ∙ ap status_after one.0 ∙ sym same }
+
+book_unique : (root : List ℕ) (commands : List script.Command) (book : Book) (s t : ℕ) (x y : List ℕ)
+    → BookOutput root commands book s x → BookOutput root commands book t y → (s ≡ t) × (x ≡ y)
+book_unique root commands book s t x y (xs, first, run, text) (ys, second, more, other) =
+    let one = one_book_run root commands book xs ys first second s t run more in
+    (one.status_is, text ∙ ap₂ (λ (l : List Step) (u : List ℕ). replies_text l ++ u) one.steps_are one.last_is ∙ sym other)
+
+line_once : (fault : ScriptFault) (x y : List ℕ) → IsScriptLine fault x → IsScriptLine fault y → x ≡ y
+line_once Long x y first second = first ∙ sym second
+line_once (BadLine number) x y first second = first ∙ sym second
+line_once Many x y first second = first ∙ sym second
+line_once NoMemory x y first second = absurd first
+
+no_line : (fault : ScriptFault) (text : List ℕ) → fault ≡ NoMemory → IsScriptLine fault text → ⊥
+no_line fault text is line = subst (λ (f : ScriptFault). IsScriptLine f text) is line
+
+fault_lines : (bytes : List ℕ) (d e : ScriptFault) (x y : List ℕ) → IsFaultOf bytes d → IsFaultOf bytes e → IsScriptLine d x → IsScriptLine e y → x ≡ y
+fault_lines bytes d e x y first second line other = elim (one_fault bytes d e first second) [
+  | inl none ↦ absurd (no_line d x none line)
+  | inr (inl none) ↦ absurd (no_line e y none other)
+  | inr (inr same) ↦ line_once e x y (subst (λ (f : ScriptFault). IsScriptLine f x) same line) other
+]
+
+no_both : (bytes : List ℕ) (commands : List script.Command) (fault : ScriptFault) (text : List ℕ) → IsScript bytes commands → IsFaultOf bytes fault → IsScriptLine fault text → ⊥
+no_both bytes commands fault text is has line = no_line fault text (no_fault bytes commands fault is has) line
+
+script_unique : (root bytes : List ℕ) (files : DiskImage) (s t : ℕ) (x y : List ℕ)
+    → ScriptOutput root bytes files s x → ScriptOutput root bytes files t y → (s ≡ t) × (x ≡ y)
+script_unique root bytes files s t x y (no_script d has line is) (no_script e also other same) = (is ∙ sym same, fault_lines bytes d e x y has also line other)
+script_unique root bytes files s t x y (no_script d has line is) (damaged commands read _ _ _) = absurd (no_both bytes commands d x read has line)
+script_unique root bytes files s t x y (no_script d has line is) (recovered commands book read _ _) = absurd (no_both bytes commands d x read has line)
+script_unique root bytes files s t x y (damaged commands read _ _ _) (no_script d has line is) = absurd (no_both bytes commands d y read has line)
+script_unique root bytes files s t x y (recovered commands book read _ _) (no_script d has line is) = absurd (no_both bytes commands d y read has line)
+script_unique root bytes files s t x y (damaged _ _ _ is line) (damaged _ _ _ same other) = (is ∙ sym same, line ∙ sym other)
+script_unique root bytes files s t x y (damaged _ _ none _ _) (recovered _ book _ found _) = absurd (none_some Book book (recovered_files files) none found)
+script_unique root bytes files s t x y (recovered _ book _ found _) (damaged _ _ none _ _) = absurd (none_some Book book (recovered_files files) none found)
+script_unique root bytes files s t x y (recovered commands book read found output) (recovered others more also same other) =
+    let asked : commands ≡ others = one_reading bytes commands others read also in
+    let books : book ≡ more = some_same Book book more (recovered_files files) found same in
+    book_unique root others more s t x y (subst (λ (b : Book). BookOutput root others b s x) books (subst (λ (l : List script.Command). BookOutput root l book s x) asked output)) other
+
+root_unique : (root : Option (List ℕ)) (bytes : List ℕ) (files : DiskImage) (s t : ℕ) (x y : List ℕ)
+    → RootOutput root bytes files s x → RootOutput root bytes files t y → (s ≡ t) × (x ≡ y)
+root_unique None bytes files s t x y first second = (first.0 ∙ sym second.0, first.1 ∙ sym second.1)
+root_unique (Some root) bytes files s t x y first second = script_unique root bytes files s t x y first second
+
+-- words, script and files give one status and one output
+pub output_unique : (words : List (List ℕ)) (bytes : List ℕ) (files : DiskImage) (s t : ℕ) (x y : List ℕ)
+    → IsOutput words bytes files s x → IsOutput words bytes files t y → (s ≡ t) × (x ≡ y)
+output_unique words bytes files s t x y first second = root_unique (root_of words) bytes files s t x y first second
+
+-- ---- what a run tells
+
+-- the tree that was printed of the root's items
+pub tree_stands : (root uri : List ℕ) (book : Book) (bytes text : List ℕ) (items : Items) → uri ≡ file_uri root → Opens root book bytes items
+    → ((nodes : Nodes) → GivesNodes root uri items nodes → text ≡ print_tree nodes) → IsTree root book text
+tree_stands root uri book bytes text items is opens prints =
+    let (nodes, gives) = document_nodes root (file_uri root) bytes items opens.plain in
+    record {
+      bytes = bytes;
+      items = items;
+      nodes = nodes;
+      opens = opens;
+      gives = gives;
+      printed = prints nodes (subst (λ (u : List ℕ). GivesNodes root u items nodes) (sym is) gives);
+    }
+
+-- a root that opens has a tree
+pub tree_exists : (root : List ℕ) (book : Book) (bytes : List ℕ) (items : Items) → Opens root book bytes items → (text : List ℕ) × IsTree root book text
+tree_exists root book bytes items opens =
+    let (nodes, gives) = document_nodes root (file_uri root) bytes items opens.plain in
+    (print_tree nodes, record { bytes = bytes; items = items; nodes = nodes; opens = opens; gives = gives; printed = refl })

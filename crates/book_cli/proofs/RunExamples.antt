@@ -13,7 +13,7 @@ use Rattle.bk_script.specs.Reading.{command_at, line_of, lines_of, lines_read, p
 use Rattle.bk_script.specs.declared.script.ScriptFault.TheVariants.{BadLine, NoMemory}
 use Rattle.bk_script.proofs.Scripts.{script_takes}
 use Rattle.jr_burst.specs.SavedFiles.{open_text}
-use Rattle.book_cli.specs.RunOutput.{usage_line, journal_line, IsScriptLine, status_after, BookOutput, missing, ScriptOutput, damaged, IsOutput, is_exit_status}
+use Rattle.book_cli.specs.Output.{usage_line, journal_line, IsScriptLine, status_after, missing, BookOutput, ScriptOutput, damaged, IsOutput, is_exit_status}
 
 -- without words the usage line, and no other
 usage : (bytes : List ℕ) (files : DiskImage) → IsOutput [] bytes files 2 usage_line
@@ -38,7 +38,7 @@ refused_one s = refl
 
 -- a root that isn't there
 absent : (book : Book) → book (codes "a.xml") ≡ None → BookOutput (codes "a.xml") [] book 3 (codes "fault Missing a.xml\n")
-absent book none = missing none refl refl
+absent book none = ([], codes "fault Missing a.xml\n", missing none refl refl refl, refl)
 
 -- an open gate with no journal beside it
 abbrev gate_alone : DiskImage

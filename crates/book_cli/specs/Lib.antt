@@ -1,6 +1,6 @@
 pub mod Words
 pub mod Output
-pub mod RunOutput
+pub mod Ends
+pub mod Leaves
 pub mod Silent
-pub mod Effects
 pub mod RealFiles

@@ -6,8 +6,10 @@ ghost use Rattle.std.specs.Prelude.{◌≡◌};
 pub mod laws;
 mod real;
 pub mod run;
+mod telling;
 #[cfg(test)]
 mod tests;
+mod tree;
 mod words;
 
 use bk_desk::StdSource;
@@ -54,6 +56,6 @@ fn main(rt: HostRuntime) -> ExitCode {
     let blank = Blank::new(1);
     match words_of(&rt) {
         Ok(words) => ExitCode::from(run_on::<Brand>(&rt, &words, blank)),
-        Err(_) => ExitCode::from(run::NO_MEMORY),
+        Err(_) => ExitCode::from(telling::NO_MEMORY),
     }
 }

@@ -1,229 +1,172 @@
 //! The run of the program, over any disk and any script.
-ghost use Rattle.std.specs.Prelude.{◌≡◌, ◌⊎◌, ◌≤◌, ◌+◌, ◌++◌, ℕ, List, Option, Some, length, map, codes, string_bytes, IsTrue, IfOk, IsOk, IsErrOf};
-ghost use Rattle.xt_spec.specs.Plain.{IsPlainDocument};
-ghost use Rattle.xt_tree.specs.Meaning.{items_in};
-ghost use Rattle.xt_tree.specs.Places.{marks_of, AreInPlace};
-ghost use Rattle.bk_desk.specs.declared.desk_name.DeskName.TheVariants.{Book};
-ghost use Rattle.bk_desk.specs.Disk.{FitsCap, got_of, IsCrashState, Tells, TellsPrefix, WhileTelling};
-ghost use Rattle.bk_desk.specs.CrashPoints.{Elapses, AtEachCrash};
-ghost use Rattle.bk_desk.specs.Cause.{HasCause};
-ghost use Rattle.book_cli.specs.Output.{usage_line, missing_line, not_yet_line, file_uri, FileOutput, IsOutput, is_exit_status, WritesOutput, WritesPrefix};
-ghost use Rattle.book_cli.specs.Effects.{size_of_got, file_steps, word_steps, TakesSteps, KeepsFiles, MayCrashIn};
+ghost use Rattle.std.specs.Prelude.{◌≡◌, ◌≢◌, ◌⊎◌, ◌≤◌, ◌+◌, ◌*◌, ℕ, List, [], length, map, Option, Some, None, IsTrue, string_bytes, encode_utf8_all};
+ghost use Rattle.bk_desk.specs.Disk.{DiskState};
+ghost use Rattle.bk_desk.specs.CrashPoints.{AtEachCrash};
+ghost use Rattle.bk_desk.specs.Cause.{Rose, HasCause};
+ghost use Rattle.jr_burst.specs.Commit.{IsClosed};
+ghost use Rattle.bk_script.specs.View.{command_of};
+ghost use Rattle.ed_session.specs.Start.{IsStarted};
+ghost use Rattle.bk_script.specs.Script.{IsScript};
+ghost use Rattle.book_cli.specs.Words.{root_of};
+ghost use Rattle.xt_spec.specs.Tree.{Items};
+ghost use Rattle.bk_spec.specs.Node.{Nodes};
+ghost use Rattle.bk_spec.specs.PlainNodes.{GivesNodes};
+ghost use Rattle.ed_spec.specs.Place.{text_set};
+ghost use Rattle.ed_spec.specs.Edit.{text_edit, IsInText, range_replaced, Accepts};
+ghost use Rattle.book_cli.specs.Output.{is_book_status, is_script_status, is_exit_status, is_answer, IsOutput, WritesOutput};
+ghost use Rattle.bk_run.specs.Input.{IsInput};
+ghost use Rattle.book_cli.specs.Leaves.{RecoveredBook, recovers_book, MayCrashIn, KeepsFiles, IsBookSaved, TakesRunSteps};
+ghost use Rattle.book_cli.specs.Ends.{IsSessionRun, IsRunOver, IsSourceFault, EndsBy, EndsEarly};
 
-use crate::words::root_of;
-use bk_desk::{Desk, DeskErr, DeskName, Got, Source};
+use crate::telling::{FAULT, NO_MEMORY, tell, tell_closed, tell_script_fault};
+use crate::tree::tell_tree;
+use crate::words::root_of as named_root;
+use bk_desk::{Desk, Source};
 use bk_name::Name;
-use bk_place::print;
-use std::alloc::{AllocError, Global};
+use bk_run::{InputFault, Stop, read_input, tell_replies};
+use bk_script::{Command, read_script};
+use ed_session::{Session, StartFault, start};
+use std::alloc::Global;
 use std::sync::ledger::Ledger;
 use xt_lex::Steps;
-use xt_read::{Unread, read_document};
-use xt_tree::Src;
-
-/// The most bytes that a file may have.
-pub const MOST_BYTES: usize = 4_194_304;
-
-/// The status of a run that memory was wanting for.
-pub const NO_MEMORY: u8 = 7;
 
 const USAGE: &[u8] = b"usage: bookedit [--base URI] ROOT [CATALOG]...\n";
 
-/// The exit status, and what is told with it.
-#[derive(Debug, Drop)]
-struct Answer {
-    status: u8,
-    text: Vec<u8>,
-}
+const SOURCE_LINE: &[u8] = b"fault source\n";
 
-/// Why there is no answer.
-#[derive(Clone, Copy, Debug, PartialEq, Eq)]
-enum Stop {
-    /// The disk or the output failed.
-    Fault,
-    NoMemory,
-}
+const JOURNAL_LINE: &[u8] = b"fault journal\n";
 
-impl From<AllocError> for Stop {
-    ghost use Rattle.std.specs.Prelude.{◌≡◌};
-    ghost use Rattle.book_cli.specs.declared.run.Stop.TheVariants.{NoMemory};
-
-    ghost from_gives = { λ _ stop. stop ≡ NoMemory };
-
-    fn from(_e: AllocError) -> Stop {
-        Stop::NoMemory
-    }
-}
-
-/// A front, the name of a file, and LF.
-fn line(alloc: Global, front: &[u8], file: &[u8]) -> Result<Vec<u8>, AllocError>
-    ensures value { IfOk result (λ text. text.items ≡ front.now ++ file.now ++ codes "\n") }
-{
-    let mut text = Vec::from_slice(alloc, front)?;
-    text.extend_from_slice(file)?;
-    text.push(b'\n')?;
-    Ok(text)
-}
-
-fn uri_of(alloc: Global, file: &[u8]) -> Result<Vec<u8>, AllocError>
-    ensures value { IfOk result (λ uri. uri.items ≡ file_uri file.now) }
-{
-    let mut uri = Vec::from_slice(alloc, b"file:///book/")?;
-    uri.extend_from_slice(file)?;
-    Ok(uri)
-}
-
-fn usage(alloc: Global) -> Result<Answer, AllocError>
-    ensures value { IfOk result (λ a. (a.status ≡ 2) × (a.text.items ≡ usage_line)) }
-{
-    Ok(Answer {
-        status: 2,
-        text: Vec::from_slice(alloc, USAGE)?,
-    })
-}
-
-fn missing(alloc: Global, file: &[u8]) -> Result<Answer, AllocError>
-    ensures value { IfOk result (λ a. (a.status ≡ 3) × (a.text.items ≡ missing_line file.now)) }
-{
-    Ok(Answer {
-        status: 3,
-        text: line(alloc, b"fault Missing ", file)?,
-    })
-}
-
-fn not_yet(alloc: Global, file: &[u8]) -> Result<Answer, AllocError>
-    ensures value { IfOk result (λ a. (a.status ≡ 3) × (a.text.items ≡ not_yet_line file.now)) }
-{
-    Ok(Answer {
-        status: 3,
-        text: line(alloc, b"fault NotYet ", file)?,
-    })
-}
-
-/// The tree of the items that a file reads as.
-fn tree(alloc: Global, file: &[u8], bytes: &[u8], items: &[Src]) -> Result<Answer, AllocError>
-    requires plain { IsPlainDocument bytes.now (items_in bytes.now items.now) }
-    requires in_place { AreInPlace bytes.now 0 (marks_of items.now) (length bytes.now) }
-    ensures value { IfOk result (λ a. (a.status ≡ 0) × FileOutput file.now (Some bytes.now) a.status a.text.items) }
-{
-    let uri = uri_of(alloc, file)?;
-    Ok(Answer {
-        status: 0,
-        text: print(alloc, file, &uri, bytes, items)?,
-    })
-}
-
-/// What a file of these bytes gives.
-fn opened<L: Ledger>(
+/// Carries out the commands over a session, and tells their replies and the tree.
+fn run_session<D: Desk, L: Ledger>(
     alloc: Global,
-    file: &[u8],
-    bytes: &[u8],
+    session: &mut Session,
+    commands: &[Command],
+    desk: &mut D,
     steps: &mut Steps<L>,
-) -> Result<Answer, AllocError>
-    requires fits { length bytes.now ≤ MOST_BYTES }
-    ensures value { IfOk result (λ a. FileOutput file.now (Some bytes.now) a.status a.text.items) }
-    ensures status { IfOk result (λ a. IsTrue (is_exit_status a.status)) }
-    ensures count { steps.new ≡ steps.old + length bytes.now }
+) -> u8
+    requires current { IsTrue D.tells → IsClosed (D.standing desk.old) }
+    ensures value { (result ≡ 0) ⊎ ((result ≡ 1) ⊎ ((result ≡ 6) ⊎ (result ≡ 7))) }
+    ensures output { IsTrue D.tells → (start : DiskState) → IsStarted session.old.root start (D.standing desk.old) session.old
+        → IsSessionRun session.old.root (map command_of commands.now) (D.standing desk.old) (D.standing desk.new) (AtEachCrash D.time D.was desk.old desk.new) result }
+    ensures cause_desk { HasCause (D.faults desk.old) (D.faults desk.new) (result ≡ 6) }
+    ensures count { (steps.old ≤ steps.new) × (steps.new ≤ steps.old + length commands.now * 4194304) }
 {
-    match read_document(alloc, bytes, steps) {
-        Ok(items) => tree(alloc, file, bytes, items.as_slice()),
-        Err(Unread::NotPlain) => not_yet(alloc, file),
-        Err(Unread::NoMemory) => Err(AllocError),
+    match tell_replies(alloc, session, commands, desk, steps) {
+        Ok(refused) => tell_tree(alloc, session, refused, desk),
+        Err(Stop::Fault) => FAULT,
+        Err(Stop::NoMemory) => NO_MEMORY,
     }
 }
 
-/// What a file gives, by what the disk gave of it.
-fn answer_for<L: Ledger>(
-    alloc: Global,
-    file: &[u8],
-    got: Got,
-    steps: &mut Steps<L>,
-) -> Result<Answer, AllocError>
-    requires fits { FitsCap MOST_BYTES got }
-    ensures value { IfOk result (λ a. (found : Option (List ℕ)) → got ≡ got_of found MOST_BYTES → FileOutput file.now found a.status a.text.items) }
-    ensures status { IfOk result (λ a. IsTrue (is_exit_status a.status)) }
-    ensures count { steps.new ≡ steps.old + size_of_got got }
-{
-    match got {
-        Got::Absent => missing(alloc, file),
-        Got::Longer => not_yet(alloc, file),
-        Got::Bytes(bytes) => opened(alloc, file, bytes.as_slice(), steps),
-    }
-}
-
-/// What a book of this root gives.
-fn answer_of_root<D: Desk, L: Ledger>(
+/// Recovers the book and opens its root, and carries out the commands.
+fn run_book<D: Desk, L: Ledger>(
     alloc: Global,
     root: &Name,
+    commands: &[Command],
     desk: &mut D,
     steps: &mut Steps<L>,
-) -> Result<Answer, Stop>
-    ensures value { IsTrue D.tells → IfOk result (λ a. FileOutput root.now ((D.standing desk.old).files (Book root.now)) a.status a.text.items) }
-    ensures status { IfOk result (λ a. IsTrue (is_exit_status a.status)) }
-    ensures same { IsTrue D.tells → D.standing desk.new ≡ D.standing desk.old }
-    ensures crash { IsTrue D.tells → AtEachCrash D.time D.was desk.old desk.new (IsCrashState (D.standing desk.old)) }
-    ensures cause_desk { HasCause (D.faults desk.old) (D.faults desk.new) (IsErrOf result Stop.Fault) }
-    ensures count { (steps.old ≤ steps.new) × (steps.new ≤ steps.old + MOST_BYTES) }
-    ensures exact { IsTrue D.tells → TakesSteps (IsOk result) (file_steps ((D.standing desk.old).files (Book root.now))) steps.old steps.new }
+) -> u8
+    ensures value { IsTrue (is_book_status result) ⊎ ((result ≡ 6) ⊎ (result ≡ 7)) }
+    ensures output { IsTrue D.tells → (bytes : List ℕ) → IsScript bytes (map command_of commands.now)
+        → IsRunOver (Some root.now) bytes (D.standing desk.old) (D.standing desk.new) (AtEachCrash D.time D.was desk.old desk.new) result }
+    ensures cause_desk { HasCause (D.faults desk.old) (D.faults desk.new) (result ≡ 6) }
+    ensures count { steps.old ≤ steps.new }
+    ensures exact { IsTrue D.tells → (bytes : List ℕ) → IsScript bytes (map command_of commands.now) → TakesRunSteps (Some root.now) bytes (D.standing desk.old).files result steps.old steps.new }
 {
-    let name = DeskName::Book(root.share()?);
-    match desk.read(&name, MOST_BYTES) {
-        Ok(got) => Ok(answer_for(alloc, root.as_str().as_bytes(), got, steps)?),
-        Err(DeskErr::Failed) => Err(Stop::Fault),
-        Err(DeskErr::NoMemory) => Err(Stop::NoMemory),
+    match start(alloc, desk, root, steps) {
+        Ok(mut session) => run_session(alloc, &mut session, commands, desk, steps),
+        Err(StartFault::Desk) => FAULT,
+        Err(StartFault::Journal) => tell(desk, JOURNAL_LINE, 8),
+        Err(StartFault::Missing) => tell_closed(alloc, b"fault Missing ", root.as_str().as_bytes(), desk),
+        Err(StartFault::NotYet) => tell_closed(alloc, b"fault NotYet ", root.as_str().as_bytes(), desk),
+        Err(StartFault::NoMemory) => NO_MEMORY,
     }
 }
 
-/// What the words and the files give.
-fn answer_of_words<D: Desk, L: Ledger>(
+/// Reads the bytes of a script, and runs its commands over the book with this root.
+fn run_script<D: Desk, L: Ledger>(
+    alloc: Global,
+    root: &Name,
+    bytes: &[u8],
+    desk: &mut D,
+    steps: &mut Steps<L>,
+) -> u8
+    ensures value { IsTrue (is_script_status result) ⊎ ((result ≡ 6) ⊎ (result ≡ 7)) }
+    ensures only { IsTrue (is_book_status result) → length bytes.now ≤ 1048576 }
+    ensures output { IsTrue D.tells → (left : List ℕ) (after : Option (List ℕ)) → IsInput 1048577 left after bytes.now
+        → IsRunOver (Some root.now) left (D.standing desk.old) (D.standing desk.new) (AtEachCrash D.time D.was desk.old desk.new) result }
+    ensures same { IsTrue D.tells → result ≡ 4 → KeepsFiles (D.standing desk.old) (D.standing desk.new) }
+    ensures cause_desk { HasCause (D.faults desk.old) (D.faults desk.new) (result ≡ 6) }
+    ensures count { steps.old ≤ steps.new }
+    ensures exact { IsTrue D.tells → (left : List ℕ) (after : Option (List ℕ)) → IsInput 1048577 left after bytes.now → TakesRunSteps (Some root.now) left (D.standing desk.old).files result steps.old steps.new }
+{
+    match read_script(alloc, bytes) {
+        Ok(commands) => run_book(alloc, root, &commands, desk, steps),
+        Err(fault) => tell_script_fault(alloc, fault, desk),
+    }
+}
+
+/// Reads the script to its end, and runs it over the book with this root.
+fn run_root<D: Desk, S: Source, L: Ledger>(
+    alloc: Global,
+    root: &Name,
+    script: &mut S,
+    desk: &mut D,
+    steps: &mut Steps<L>,
+) -> u8
+    ensures value { IsTrue (is_script_status result) ⊎ ((result ≡ 5) ⊎ ((result ≡ 6) ⊎ (result ≡ 7))) }
+    ensures output { IsTrue D.tells → (left : List ℕ) → S.left script.old ≡ Some left
+        → EndsBy (Some root.now) left (Rose (S.faults script.old) (S.faults script.new)) (D.standing desk.old) (D.standing desk.new) (AtEachCrash D.time D.was desk.old desk.new) result }
+    ensures fault { IsTrue D.tells → result ≡ 5 → IsSourceFault (Some root.now) (Rose (S.faults script.old) (S.faults script.new)) (D.standing desk.old) (D.standing desk.new) (AtEachCrash D.time D.was desk.old desk.new) result }
+    ensures none { (left : List ℕ) → S.left script.old ≡ Some left → IsTrue (is_book_status result) → S.left script.new ≡ Some [] }
+    ensures same { IsTrue D.tells → (result ≡ 4) ⊎ (result ≡ 5) → KeepsFiles (D.standing desk.old) (D.standing desk.new) }
+    ensures cause_desk { HasCause (D.faults desk.old) (D.faults desk.new) (result ≡ 6) }
+    ensures cause { HasCause (S.faults script.old) (S.faults script.new) (result ≡ 5) }
+    ensures count { steps.old ≤ steps.new }
+    ensures exact { IsTrue D.tells → (left : List ℕ) → S.left script.old ≡ Some left → TakesRunSteps (Some root.now) left (D.standing desk.old).files result steps.old steps.new }
+{
+    match read_input(alloc, script) {
+        Ok(bytes) => run_script(alloc, root, &bytes, desk, steps),
+        Err(InputFault::Source) => tell(desk, SOURCE_LINE, 5),
+        Err(InputFault::NoMemory) => NO_MEMORY,
+    }
+}
+
+/// The run, where the words have a reading or not.
+fn run_words<D: Desk, S: Source, L: Ledger>(
     alloc: Global,
     words: &[String],
+    script: &mut S,
     desk: &mut D,
     steps: &mut Steps<L>,
-) -> Result<Answer, Stop>
-    ensures value { IsTrue D.tells → IfOk result (λ a. IsOutput (map string_bytes words.now) (D.standing desk.old).files a.status a.text.items) }
-    ensures status { IfOk result (λ a. IsTrue (is_exit_status a.status)) }
-    ensures same { IsTrue D.tells → D.standing desk.new ≡ D.standing desk.old }
-    ensures crash { IsTrue D.tells → AtEachCrash D.time D.was desk.old desk.new (IsCrashState (D.standing desk.old)) }
-    ensures cause_desk { HasCause (D.faults desk.old) (D.faults desk.new) (IsErrOf result Stop.Fault) }
-    ensures count { (steps.old ≤ steps.new) × (steps.new ≤ steps.old + MOST_BYTES) }
-    ensures exact { IsTrue D.tells → TakesSteps (IsOk result) (word_steps (map string_bytes words.now) (D.standing desk.old).files) steps.old steps.new }
-{
-    match root_of(alloc, words)? {
-        Some(root) => answer_of_root(alloc, &root, desk, steps),
-        None => Ok(usage(alloc)?),
-    }
-}
-
-fn status_of(stop: Stop) -> u8
-    ensures fault { stop ≡ Stop.Fault → result ≡ 6 }
-    ensures memory { stop ≡ Stop.NoMemory → result ≡ NO_MEMORY }
-{
-    match stop {
-        Stop::Fault => 6,
-        Stop::NoMemory => NO_MEMORY,
-    }
-}
-
-/// Tells an answer, and gives its status.
-fn told<D: Desk>(desk: &mut D, answer: &Answer) -> u8
-    requires status { IsTrue (is_exit_status answer.now.status) }
-    ensures value { (result ≡ answer.now.status) ⊎ ((result ≡ 6) ⊎ (result ≡ 7)) }
-    ensures output { IsTrue D.tells → IsTrue (is_exit_status result) → (result ≡ answer.now.status) × Tells answer.now.text.items (D.standing desk.old) (D.standing desk.new) }
-    ensures same { IsTrue D.tells → TellsPrefix answer.now.text.items (D.standing desk.old) (D.standing desk.new) }
-    ensures crash { IsTrue D.tells → Elapses (D.time desk.old) (D.time desk.new) (D.was desk.old) (D.was desk.new) (WhileTelling answer.now.text.items (D.standing desk.old)) }
+) -> u8
+    ensures value { IsTrue (is_answer result) }
+    ensures output { IsTrue D.tells → (left : List ℕ) → S.left script.old ≡ Some left
+        → EndsBy (root_of (map string_bytes words.now)) left (Rose (S.faults script.old) (S.faults script.new)) (D.standing desk.old) (D.standing desk.new) (AtEachCrash D.time D.was desk.old desk.new) result }
+    ensures fault { IsTrue D.tells → result ≡ 5 → IsSourceFault (root_of (map string_bytes words.now)) (Rose (S.faults script.old) (S.faults script.new)) (D.standing desk.old) (D.standing desk.new) (AtEachCrash D.time D.was desk.old desk.new) result }
+    ensures none { (left : List ℕ) → S.left script.old ≡ Some left → IsTrue (is_book_status result) → S.left script.new ≡ Some [] }
+    ensures keeps { root_of (map string_bytes words.now) ≡ None → script.new ≡ script.old }
+    ensures same { IsTrue D.tells → (result ≡ 2) ⊎ ((result ≡ 4) ⊎ (result ≡ 5)) → KeepsFiles (D.standing desk.old) (D.standing desk.new) }
     ensures cause_desk { HasCause (D.faults desk.old) (D.faults desk.new) (result ≡ 6) }
+    ensures cause { HasCause (S.faults script.old) (S.faults script.new) (result ≡ 5) }
+    ensures count { steps.old ≤ steps.new }
+    ensures exact { IsTrue D.tells → (left : List ℕ) → S.left script.old ≡ Some left → TakesRunSteps (root_of (map string_bytes words.now)) left (D.standing desk.old).files result steps.old steps.new }
 {
-    match desk.tell(&answer.text) {
-        Ok(()) => answer.status,
-        Err(DeskErr::Failed) => 6,
-        Err(DeskErr::NoMemory) => NO_MEMORY,
+    match named_root(alloc, words) {
+        Ok(Some(root)) => run_root(alloc, &root, script, desk, steps),
+        Ok(None) => tell(desk, USAGE, 2),
+        Err(_) => NO_MEMORY,
     }
 }
 
-/// Opens the document that the words name, and tells its tree, or the one line that says why there is none.
+/// Carries out a script over the book whose root the words name: tells the reply to each command and then the tree, or the one
+/// line that says why not. The order is: the words; the script to its end, and its lines; the recovery of the book; its root; the
+/// commands, each reply before the next command; the tree.
 ///
-/// The script is not read yet. The answer is the exit status: 0 with the tree, 2 with the usage line, 3 with a fault line;
-/// 6 where the disk or the output failed, 7 where memory was wanting, and then at most the first bytes of it are told.
+/// The answer is the exit status: 0, or 1 where a command was refused; 2 for words without a reading, 3 for a root that is not
+/// there or no plain document, 4 for a script without a reading, 8 for a damaged journal; 5 where the source of the script
+/// failed, 6 where the disk or the output did, 7 where memory was wanting. Where no count of faults rose it is the status of the
+/// definition, or 7.
 pub fn run<D: Desk, S: Source, L: Ledger>(
     alloc: Global,
     words: &[String],
@@ -231,21 +174,38 @@ pub fn run<D: Desk, S: Source, L: Ledger>(
     desk: &mut D,
     steps: &mut Steps<L>,
 ) -> u8
-    ensures value { IsTrue (is_exit_status result) ⊎ ((result ≡ 6) ⊎ (result ≡ 7)) }
-    // With 0, 2 or 3 exactly the output was told, and the answer is the one that words and files give.
-    ensures output { IsTrue D.tells → IsTrue (is_exit_status result) → WritesOutput (IsOutput (map string_bytes words.now) (D.standing desk.old).files) result (D.standing desk.old).told (D.standing desk.new).told }
-    // With 6 or 7 it was told in part, or nothing was.
-    ensures prefix { IsTrue D.tells → WritesPrefix (IsOutput (map string_bytes words.now) (D.standing desk.old).files) (D.standing desk.old).told (D.standing desk.new).told }
+    ensures value { IsTrue (is_answer result) }
+    // With 0, 1, 2, 3, 4 or 8 exactly the output was told, and the answer is its status.
+    ensures output { IsTrue D.tells → (left : List ℕ) → S.left script.old ≡ Some left → IsTrue (is_exit_status result)
+        → WritesOutput (IsOutput (map string_bytes words.now) left (D.standing desk.old).files) result (D.standing desk.old).told (D.standing desk.new).told }
+    // With 5 exactly the line of the source was told; what a crash leaves of such a run.
+    ensures fault { IsTrue D.tells → result ≡ 5
+        → IsSourceFault (root_of (map string_bytes words.now)) (Rose (S.faults script.old) (S.faults script.new)) (D.standing desk.old) (D.standing desk.new) (AtEachCrash D.time D.was desk.old desk.new) result }
+    // With 6 or 7 a front of the output, or of the line of the source; what a crash leaves of either.
+    ensures prefix { IsTrue D.tells → (left : List ℕ) → S.left script.old ≡ Some left → (result ≡ 6) ⊎ (result ≡ 7)
+        → EndsEarly (root_of (map string_bytes words.now)) left (Rose (S.faults script.old) (S.faults script.new)) (D.standing desk.old) (D.standing desk.new) (AtEachCrash D.time D.was desk.old desk.new) result }
+    ensures crash { IsTrue D.tells → (left : List ℕ) → S.left script.old ≡ Some left → IsTrue (is_exit_status result)
+        → AtEachCrash D.time D.was desk.old desk.new (MayCrashIn (root_of (map string_bytes words.now)) left (D.standing desk.old)) }
+    // After 0, 1 and 3.
+    ensures durable { IsTrue D.tells → (left : List ℕ) → S.left script.old ≡ Some left → IsTrue (recovers_book result)
+        → IsBookSaved (root_of (map string_bytes words.now)) left (D.standing desk.old) (D.standing desk.new) result }
+    ensures same { IsTrue D.tells → (result ≡ 2) ⊎ ((result ≡ 4) ⊎ (result ≡ 5)) → KeepsFiles (D.standing desk.old) (D.standing desk.new) }
+    // Where no book is recovered: after 8 too.
+    ensures others { IsTrue D.tells → (left : List ℕ) → S.left script.old ≡ Some left
+        → (RecoveredBook (root_of (map string_bytes words.now)) left (D.standing desk.old).files → ⊥) → (D.standing desk.new).files ≡ (D.standing desk.old).files }
     ensures cause_desk { HasCause (D.faults desk.old) (D.faults desk.new) (result ≡ 6) }
-    ensures same { IsTrue D.tells → KeepsFiles (D.standing desk.old) (D.standing desk.new) }
-    ensures crash { IsTrue D.tells → AtEachCrash D.time D.was desk.old desk.new (MayCrashIn (IsOutput (map string_bytes words.now) (D.standing desk.old).files) (D.standing desk.old)) }
-    ensures others { script.new ≡ script.old }
-    ensures count { (steps.old ≤ steps.new) × (steps.new ≤ steps.old + MOST_BYTES) }
-    // A step a byte of the file that was read.
-    ensures exact { IsTrue D.tells → TakesSteps (IsTrue (is_exit_status result)) (word_steps (map string_bytes words.now) (D.standing desk.old).files) steps.old steps.new }
+    ensures cause { HasCause (S.faults script.old) (S.faults script.new) (result ≡ 5) }
+    // After 0, 1, 3 and 8 nothing of the script is left.
+    ensures none { (left : List ℕ) → S.left script.old ≡ Some left → IsTrue (is_book_status result) → S.left script.new ≡ Some [] }
+    ensures keeps { root_of (map string_bytes words.now) ≡ None → script.new ≡ script.old }
+    // An edit that is accepted gives the text at its place the new value, and leaves all other nodes (`ed_laws`).
+    ensures law { (file uri : List ℕ) (items others : Items) (nodes : Nodes) (place : List ℕ) (from to : ℕ) (new : List ℕ)
+        → GivesNodes file uri items nodes → Accepts items (text_edit place from to new) others
+        → (path characters : List ℕ) × IsInText items place from to path characters
+        × GivesNodes file uri others (text_set nodes place (encode_utf8_all (range_replaced characters from to new))) }
+    ensures count { steps.old ≤ steps.new }
+    ensures exact { IsTrue D.tells → (left : List ℕ) → S.left script.old ≡ Some left
+        → TakesRunSteps (root_of (map string_bytes words.now)) left (D.standing desk.old).files result steps.old steps.new }
 {
-    match answer_of_words(alloc, words, desk, steps) {
-        Ok(answer) => told(desk, &answer),
-        Err(stop) => status_of(stop),
-    }
+    run_words(alloc, words, script, desk, steps)
 }

@@ -66,10 +66,10 @@ fn ran(alloc: Global, file: Option<&[u8]>, fails: &[u64], words: &[&str]) -> Res
     run_over::<Brand>(alloc, files, Vec::from_slice(alloc, fails)?, &texts, blank)
 }
 
-/// Whether a run over book.xml with these bytes gives this status and this text: one read, and one tell.
+/// Whether a run over book.xml with these bytes gives this status and this text: a sync, two reads, and one tell.
 fn opens(alloc: Global, bytes: &[u8], status: u8, text: &[u8]) -> Result<bool, Fail> {
     let told = ran(alloc, Some(bytes), &[], &["book.xml"])?;
-    Ok(told.status == status && told.text.as_slice() == text && told.calls == 2)
+    Ok(told.status == status && told.text.as_slice() == text && told.calls == 4)
 }
 
 fn is_tree(alloc: Global, document: &str, tree: &str) -> Result<bool, Fail> {
@@ -288,12 +288,12 @@ fn a_missing_file_and_a_failing_disk(rt: HostRuntime) -> Result<(), Fail> {
     assert!(rt;
         missing.status == 3
             && missing.text.as_slice() == b"fault Missing book.xml\n".as_slice()
-            && missing.calls == 2
+            && missing.calls == 4
     );
-    let unread = ran(alloc, Some(b"<a/>"), &[1], &["book.xml"])?;
-    assert!(rt; unread.status == 6 && unread.text.is_empty() && unread.calls == 1);
-    let untold = ran(alloc, Some(b"<a/>"), &[2], &["book.xml"])?;
-    assert!(rt; untold.status == 6 && untold.text.is_empty() && untold.calls == 2);
+    let unread = ran(alloc, Some(b"<a/>"), &[3], &["book.xml"])?;
+    assert!(rt; unread.status == 6 && unread.text.is_empty() && unread.calls == 3);
+    let untold = ran(alloc, Some(b"<a/>"), &[4], &["book.xml"])?;
+    assert!(rt; untold.status == 6 && untold.text.is_empty() && untold.calls == 4);
     let no_usage = ran(alloc, Some(b"<a/>"), &[1], &[])?;
     assert!(rt; no_usage.status == 6 && no_usage.text.is_empty() && no_usage.calls == 1);
     Ok(())

@@ -4,3 +4,4 @@ pub mod LeadLemmas
 pub mod EditLemmas
 pub mod BurstLemmas
 pub mod Examples
+pub mod StartLemmas

@@ -7,8 +7,10 @@
 --   IsAbsent, IsNotPlain             the book was recovered, and its root is not there, or is no plain document
 --   FailsBy                          why there is no session
 --   size_of_got, file_steps          how many steps it takes to read a file: one a byte
+--   recovered_steps                  .. the root of the book that is recovered; none where there is no book
 --   HasRead                          the call did not end before the root was read
-use Rattle.std.specs.Prelude.{◌≡◌, ℕ, List, length, nat_le, if◌then◌else◌, Option, Some, None, Result, Ok, Err}
+--   TakesSteps                       so many steps at most, and exactly so many where this holds
+use Rattle.std.specs.Prelude.{◌≡◌, ◌≤◌, ◌+◌, ℕ, List, length, nat_le, if◌then◌else◌, Option, Some, None, Result, Ok, Err}
 use Rattle.xt_spec.specs.Tree.{Items}
 use Rattle.xt_spec.specs.Plain.{IsPlainDocument}
 use Rattle.bk_desk.specs.declared.desk_name.DeskName.TheVariants.{Book}
@@ -19,7 +21,7 @@ use Rattle.jr_burst.specs.declared.recovery.RecoverFault.{RecoverFault}
 use Rattle.jr_burst.specs.declared.recovery.RecoverFault.TheVariants as recover
 use Rattle.bk_desk.specs.declared.desk.Got.{Got}
 use Rattle.bk_desk.specs.declared.desk.Got.TheVariants.{Absent, Bytes, Longer}
-use Rattle.jr_burst.specs.SavedFiles.{recovered_files}
+use Rattle.jr_burst.specs.SavedFiles.{Files, recovered_files}
 use Rattle.jr_burst.specs.Recover.{IsRecovered, IsOnlySynced}
 use Rattle.ed_session.specs.declared.opening.StartFault.{StartFault}
 use Rattle.ed_session.specs.declared.opening.StartFault.TheVariants as start
@@ -80,6 +82,16 @@ size_of_got Longer = 0
 abbrev pub file_steps : Option (List ℕ) → ℕ
 file_steps None = 0
 file_steps (Some bytes) = if nat_le (length bytes) 4194304 then length bytes else 0
+
+-- .. of the root of the book that is recovered; none where the journal is damaged
+abbrev pub recovered_steps : List ℕ → Option Files → ℕ
+recovered_steps root None = 0
+recovered_steps root (Some book) = file_steps (book root)
+
+-- so many steps were taken at most, and exactly so many where this holds
+pub record TakesSteps (whole : Type 0) (steps earlier now : ℕ) : Type 0 where
+  pub most : now ≤ earlier + steps
+  pub exact : whole → now ≡ earlier + steps
 
 -- the call did not end before the root was read, or was found to be none
 abbrev pub HasRead : Result Kept StartFault → Type 0

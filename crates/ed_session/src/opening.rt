@@ -3,13 +3,13 @@ ghost use Rattle.std.specs.Prelude.{◌≡◌, ◌≤◌, ◌+◌, ◌⊎◌, �
 ghost use Rattle.xt_spec.specs.Tree.{Items as SyntaxItems};
 ghost use Rattle.xt_spec.specs.Plain.{IsPlainDocument};
 ghost use Rattle.bk_desk.specs.declared.desk_name.DeskName.TheVariants.{Book};
-ghost use Rattle.bk_desk.specs.Disk.{FitsCap, got_of};
+ghost use Rattle.bk_desk.specs.Disk.{FitsCap, Syncs, got_of};
 ghost use Rattle.bk_desk.specs.CrashPoints.{AtEachCrash};
 ghost use Rattle.bk_desk.specs.Cause.{HasCause};
 ghost use Rattle.jr_burst.specs.SavedFiles.{recovered_files};
 ghost use Rattle.jr_burst.specs.Recover.{IsRecovered, IsStartOrRecovered, IsOnlySynced};
 ghost use Rattle.ed_session.specs.Kept.{Kept};
-ghost use Rattle.ed_session.specs.Start.{IsOver, IsNoDocument, IsStarted, FailsBy, size_of_got, file_steps, HasRead};
+ghost use Rattle.ed_session.specs.Start.{IsOver, IsNoDocument, IsStarted, FailsBy, size_of_got, recovered_steps, TakesSteps, HasRead};
 
 use crate::kept::Session;
 use bk_desk::{Desk, DeskErr, DeskName, Got};
@@ -120,7 +120,7 @@ fn opened_by<L: Ledger>(
     ensures none { IsErrOf result StartFault.NotYet → (found : Option (List ℕ)) → got ≡ got_of found MOST_BYTES → IsNoDocument found }
     ensures only { ¬ IsErrOf result StartFault.Desk × ¬ IsErrOf result StartFault.Journal }
     ensures count { steps.new ≤ steps.old + MOST_BYTES }
-    ensures exact { steps.old ≤ steps.new × (¬ IsErrOf result StartFault.NoMemory → steps.new ≡ steps.old + size_of_got got) }
+    ensures exact { (steps.old ≤ steps.new) × TakesSteps (¬ IsErrOf result StartFault.NoMemory) (size_of_got got) steps.old steps.new }
 {
     match got {
         Got::Absent => Err(StartFault::Missing),
@@ -138,10 +138,12 @@ pub fn start<D: Desk, L: Ledger>(
 ) -> Result<Session, StartFault>
     ensures value { IsTrue D.tells → IfOk result (IsStarted root.now (D.standing desk.old) (D.standing desk.new)) }
     ensures fault { IsTrue D.tells → IfErr result (FailsBy root.now (D.standing desk.old) (D.standing desk.new)) }
+    // A damaged journal: nothing is written, whatever the answer.
+    ensures none { IsTrue D.tells → recovered_files (D.standing desk.old).files ≡ None → Syncs (D.standing desk.old) (D.standing desk.new) }
     ensures crash { IsTrue D.tells → AtEachCrash D.time D.was desk.old desk.new (IsStartOrRecovered (D.standing desk.old)) }
     ensures cause_desk { HasCause (D.faults desk.old) (D.faults desk.new) (IsErrOf result StartFault.Desk) }
     ensures count { (steps.old ≤ steps.new) × (steps.new ≤ steps.old + MOST_BYTES) }
-    ensures exact { IsTrue D.tells → HasRead result → steps.new ≡ steps.old + file_steps ((D.standing desk.new).files (Book root.now)) }
+    ensures exact { IsTrue D.tells → TakesSteps (HasRead result) (recovered_steps root.now (recovered_files (D.standing desk.old).files)) steps.old steps.new }
 {
     recover(alloc, desk)?;
     let got = desk.read(&DeskName::Book(root.share()?), MOST_BYTES)?;

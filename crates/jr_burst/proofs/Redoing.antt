@@ -6,7 +6,7 @@ use Rattle.bk_desk.specs.Disk.{DiskImage, DiskState, CrashState, IsCrashImage, I
 use Rattle.jr_form.specs.declared.item.Item.{Item}
 use Rattle.jr_burst.specs.SavedFiles.{Files, book_files, overlaid, names, is_open_gate, items_in, recovered_files}
 use Rattle.jr_burst.specs.Commit.{HasOpenJournal, Leaves, RecoversTo}
-use Rattle.jr_burst.specs.Recover.{IsUnnamed, IsStartOrRecovered, IsRecovered, HasOpenGate}
+use Rattle.jr_burst.specs.Recover.{RecoversAlike, IsUnnamed, IsStartOrRecovered, IsRecovered, HasOpenGate}
 use Rattle.jr_burst.proofs.Overlay.{overlaid_other}
 use Rattle.jr_burst.proofs.Recovering.{open_recovers, closed_recovers}
 
@@ -19,14 +19,18 @@ is_unnamed items start name due unnamed = subst (λ (found : Option (List Item))
 pub carrying_recovers : (items : List Item) (start : DiskState) (crash : CrashState) → HasOpenJournal items start → RecoversTo (overlaid items (book_files start.files)) start items crash → IsStartOrRecovered start crash
 carrying_recovers items start crash due is = record {
   told = is.told;
-  recovers = inr (is.recovers ∙ sym (due_recovers items start due));
+  recovers = inr (record { files = overlaid items (book_files start.files); one = is.recovers; two = due_recovers items start due });
   others = λ name unnamed still. is.others name (is_unnamed items start name due unnamed);
 }
 
 pub closing_recovers : (items : List Item) (start carried : DiskState) (crash : CrashState) → HasOpenJournal items start → Leaves (overlaid items (book_files start.files)) start carried → RecoversTo (book_files carried.files) carried [] crash → IsStartOrRecovered start crash
 closing_recovers items start carried crash due left is = record {
   told = is.told ∙ left.told;
-  recovers = inr (is.recovers ∙ ap (λ (files : Files). Some files) left.book ∙ sym (due_recovers items start due));
+  recovers = inr (record {
+    files = overlaid items (book_files start.files);
+    one = is.recovers ∙ ap (λ (files : Files). Some files) left.book;
+    two = due_recovers items start due;
+  });
   others = λ name unnamed still. is.others name refl ∙ ap (λ (files : Files). files name) left.book ∙ overlaid_other items (book_files start.files) name (is_unnamed items start name due unnamed);
 }
 
@@ -46,7 +50,7 @@ start_crash start crash is = record { told = is.told; recovers = inl is.image; o
 pub rebased : (start synced : DiskState) (crash : CrashState) → Syncs start synced → NothingPending synced → IsStartOrRecovered synced crash → IsStartOrRecovered start crash
 rebased start synced crash syncs durable is = record {
   told = is.told ∙ syncs.told;
-  recovers = ⊎_elim (λ (image : IsCrashImage synced crash.image). inl (λ name still. image name (durable name) ∙ ap (λ (files : DiskImage). files name) syncs.files)) (λ (e : recovered_files crash.image ≡ recovered_files synced.files). inr (e ∙ ap recovered_files syncs.files)) is.recovers;
+  recovers = ⊎_elim (λ (image : IsCrashImage synced crash.image). inl (λ name still. image name (durable name) ∙ ap (λ (files : DiskImage). files name) syncs.files)) (λ (alike : RecoversAlike crash.image synced.files). inr (record { files = alike.files; one = alike.one; two = ap recovered_files (sym syncs.files) ∙ alike.two })) is.recovers;
   others = λ name unnamed still. is.others name (subst (λ (files : DiskImage). is_open_gate (files Gate) ≡ true → IfSome (items_in (files Journal)) (λ items. names items name ≡ false)) (sym syncs.files) unnamed) (durable (Book name)) ∙ ap (λ (files : DiskImage). files (Book name)) syncs.files;
 }
 

@@ -1,6 +1,7 @@
 -- What a recovery finds, and what it and a crash at any point of it leave; of this project.
 --
 --   IsUnnamed           no journal under an open gate names this file
+--   RecoversAlike       two images recover to the same files, and neither is damaged
 --   IsStartOrRecovered  a crash at any point of a recovery
 --   IsRecovered         what it leaves
 --   IsOnlySynced        nothing was written
@@ -11,12 +12,12 @@ use Rattle.bk_desk.specs.declared.desk.DeskErr.{DeskErr}
 use Rattle.bk_desk.specs.declared.desk.DeskErr.TheVariants.{Failed, NoMemory}
 use Rattle.bk_desk.specs.declared.desk.Got.{Got}
 use Rattle.bk_desk.specs.declared.desk.Got.TheVariants.{Absent, Bytes, Longer}
-use Rattle.bk_desk.specs.Disk.{DiskState, CrashState, MayLeave, IsCrashImage, Syncs, NothingPending}
+use Rattle.bk_desk.specs.Disk.{DiskImage, DiskState, CrashState, MayLeave, IsCrashImage, Syncs, NothingPending}
 use Rattle.jr_form.specs.declared.item.Item.{Item}
 use Rattle.jr_form.specs.Reading.{reading}
 use Rattle.jr_burst.specs.declared.recovery.RecoverFault.{RecoverFault}
 use Rattle.jr_burst.specs.declared.recovery.RecoverFault.TheVariants as faults
-use Rattle.jr_burst.specs.SavedFiles.{book_files, names, open_text, is_open_gate, items_in, recovered_files}
+use Rattle.jr_burst.specs.SavedFiles.{Files, book_files, names, open_text, is_open_gate, items_in, recovered_files}
 
 -- whether what a read of the gate gave is an open one
 abbrev pub got_is_open : Got → Bool
@@ -39,11 +40,17 @@ fault_of NoMemory = faults.NoMemory
 abbrev pub IsUnnamed : DiskState → List ℕ → Type 0
 IsUnnamed start name = is_open_gate (start.files Gate) ≡ true → IfSome (items_in (start.files Journal)) (λ items. names items name ≡ false)
 
+-- there are files that both recover to
+pub record RecoversAlike (image other : DiskImage) : Type 0 where
+  pub files : Files
+  pub one : recovered_files image ≡ Some files
+  pub two : recovered_files other ≡ Some files
+
 -- A crash at any point of a recovery: what was told is unchanged, the image is one of the start or recovers to what the files
 -- read at the start recover to, and a book file that no open journal names is left as it may have been at the start.
 pub record IsStartOrRecovered (start : DiskState) (crash : CrashState) : Type 0 where
   pub told : crash.told ≡ start.told
-  pub recovers : IsCrashImage start crash.image ⊎ (recovered_files crash.image ≡ recovered_files start.files)
+  pub recovers : IsCrashImage start crash.image ⊎ RecoversAlike crash.image start.files
   pub others : (name : List ℕ) → IsUnnamed start name → MayLeave start (Book name) (crash.image (Book name))
 
 -- the book is the recovered_files one, the gate is closed, and nothing is pending

@@ -88,6 +88,7 @@ fn redo<D: Desk>(alloc: Global, desk: &mut D) -> Result<(), RecoverFault>
     ensures durable { IsTrue D.tells → OnOk result (IsRecovered (D.standing desk.old) (D.standing desk.new)) }
     ensures fault { IsTrue D.tells → IsErrOf result RecoverFault.Journal → recovered_files (D.standing desk.old).files ≡ None }
     ensures same { IsTrue D.tells → IsErrOf result RecoverFault.Journal → D.standing desk.new ≡ D.standing desk.old }
+    ensures none { IsTrue D.tells → recovered_files (D.standing desk.old).files ≡ None → D.standing desk.new ≡ D.standing desk.old }
     ensures crash { IsTrue D.tells → AtEachCrash D.time D.was desk.old desk.new (IsStartOrRecovered (D.standing desk.old)) }
     ensures cause_desk { HasCause (D.faults desk.old) (D.faults desk.new) (IsErrOf result RecoverFault.Desk) }
 {
@@ -107,6 +108,8 @@ pub fn recover<D: Desk>(alloc: Global, desk: &mut D) -> Result<(), RecoverFault>
     ensures fault { IsTrue D.tells → IsErrOf result RecoverFault.Journal → recovered_files (D.standing desk.old).files ≡ None }
     ensures same { IsTrue D.tells → IsErrOf result RecoverFault.Journal → IsOnlySynced (D.standing desk.old) (D.standing desk.new) }
     ensures others { IsTrue D.tells → is_open_gate ((D.standing desk.old).files Gate) ≡ false → Syncs (D.standing desk.old) (D.standing desk.new) }
+    // A damaged journal: nothing is written, whatever the answer.
+    ensures none { IsTrue D.tells → recovered_files (D.standing desk.old).files ≡ None → Syncs (D.standing desk.old) (D.standing desk.new) }
     ensures crash { IsTrue D.tells → AtEachCrash D.time D.was desk.old desk.new (IsStartOrRecovered (D.standing desk.old)) }
     ensures cause_desk { HasCause (D.faults desk.old) (D.faults desk.new) (IsErrOf result RecoverFault.Desk) }
 {

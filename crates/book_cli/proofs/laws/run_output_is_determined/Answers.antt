@@ -1,4 +1,4 @@
-use Rattle.book_cli.proofs.RunOutputLemmas.{output_unique}
+use Rattle.book_cli.proofs.OutputLemmas.{output_unique}
 use Rattle.book_cli.proofs.laws.run_output_is_determined.Goals as goal
 
 pub returns : goal.returns

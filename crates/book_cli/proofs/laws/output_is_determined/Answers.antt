@@ -1,5 +1,0 @@
-use Rattle.book_cli.proofs.OutputLemmas.{output_unique}
-use Rattle.book_cli.proofs.laws.output_is_determined.Goals as goal
-
-pub returns : goal.returns
-returns c = record { value = output_unique }

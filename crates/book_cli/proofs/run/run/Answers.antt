@@ -1,0 +1,36 @@
+use Rattle.std.proofs.Common.{map}
+use Rattle.std.specs.Prelude.{string_bytes}
+use Rattle.bk_desk.specs.Cause.{Rose}
+use Rattle.bk_desk.specs.CrashPoints.{AtEachCrash}
+use Rattle.ed_laws.proofs.Theorems.{accepted_changes_the_node}
+use Rattle.book_cli.specs.Words.{root_of}
+use Rattle.book_cli.proofs.EndLemmas.{ends_output, ends_crash, ends_durable, ends_others, ends_early}
+use Rattle.book_cli.proofs.run.run.Goals as goal
+
+pub returns-clause-law : goal.returns-clause-law
+returns-clause-law g c = accepted_changes_the_node
+
+pub returns-clause-output : goal.returns-clause-output
+returns-clause-output g c = λ h left told.
+    ends_output (root_of (map string_bytes c.args.words.now)) left (Rose (g.S.Source.faults c.args.script.now) (g.S.Source.faults c.run_words.new.script)) (g.D.Desk.standing c.args.desk.now) (g.D.Desk.standing c.run_words.new.desk)
+    (AtEachCrash g.D.Desk.time g.D.Desk.was c.args.desk.now c.run_words.new.desk) c.run_words.result (c.run_words.ensures.output h left told)
+
+pub returns-clause-crash : goal.returns-clause-crash
+returns-clause-crash g c = λ h left told.
+    ends_crash (root_of (map string_bytes c.args.words.now)) left (Rose (g.S.Source.faults c.args.script.now) (g.S.Source.faults c.run_words.new.script)) (g.D.Desk.standing c.args.desk.now) (g.D.Desk.standing c.run_words.new.desk)
+    (AtEachCrash g.D.Desk.time g.D.Desk.was c.args.desk.now c.run_words.new.desk) c.run_words.result (c.run_words.ensures.output h left told)
+
+pub returns-clause-durable : goal.returns-clause-durable
+returns-clause-durable g c = λ h left told.
+    ends_durable (root_of (map string_bytes c.args.words.now)) left (Rose (g.S.Source.faults c.args.script.now) (g.S.Source.faults c.run_words.new.script)) (g.D.Desk.standing c.args.desk.now) (g.D.Desk.standing c.run_words.new.desk)
+    (AtEachCrash g.D.Desk.time g.D.Desk.was c.args.desk.now c.run_words.new.desk) c.run_words.result (c.run_words.ensures.output h left told)
+
+pub returns-clause-others : goal.returns-clause-others
+returns-clause-others g c = λ h left told.
+    ends_others (root_of (map string_bytes c.args.words.now)) left (Rose (g.S.Source.faults c.args.script.now) (g.S.Source.faults c.run_words.new.script)) (g.D.Desk.standing c.args.desk.now) (g.D.Desk.standing c.run_words.new.desk)
+    (AtEachCrash g.D.Desk.time g.D.Desk.was c.args.desk.now c.run_words.new.desk) c.run_words.result (c.run_words.ensures.output h left told)
+
+pub returns-clause-prefix : goal.returns-clause-prefix
+returns-clause-prefix g c = λ h left told failed.
+    ends_early (root_of (map string_bytes c.args.words.now)) left (Rose (g.S.Source.faults c.args.script.now) (g.S.Source.faults c.run_words.new.script)) (g.D.Desk.standing c.args.desk.now) (g.D.Desk.standing c.run_words.new.desk)
+    (AtEachCrash g.D.Desk.time g.D.Desk.was c.args.desk.now c.run_words.new.desk) c.run_words.result (c.run_words.ensures.output h left told)

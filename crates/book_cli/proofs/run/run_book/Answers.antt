@@ -1,0 +1,68 @@
+use Rattle.std.proofs.Common.{◌∙◌, ℕ, List, length, map, refl, sym, inl, inr, subst}
+use Rattle.std.proofs.lemmas.List.{length-map}
+use Rattle.bk_desk.specs.CrashPoints.{AtEachCrash}
+use Rattle.jr_burst.specs.SavedFiles.{book_files}
+use Rattle.jr_burst.specs.Recover.{IsStartOrRecovered}
+use Rattle.bk_script.specs.View.{command_of}
+use Rattle.ed_session.specs.Start.{IsStarted}
+use Rattle.bk_run.proofs.DoingLemmas.{told_stays}
+use Rattle.book_cli.specs.Output.{missing_line, not_yet_line, missing, not_yet}
+use Rattle.book_cli.specs.Ends.{IsToldWith, IsSessionRun}
+use Rattle.book_cli.proofs.RunLemmas.{opened_run, closed_run, damaged_run, failed_run, opened_steps}
+use Rattle.book_cli.proofs.run.run_book.Goals as goal
+
+pub returns-in-Ok-clause-output : goal.returns-in-Ok-clause-output
+returns-in-Ok-clause-output g c = λ h bytes reads.
+    let old = g.D.Desk.standing c.args.desk.now in
+    let mid = g.D.Desk.standing c.start.new.desk in
+    let is = c.in-Ok.ensures.value h in
+    let named = is.over.named in
+    let commands = map command_of c.args.commands.now in
+    opened_run g.D.Desk.standing g.D.Desk.time g.D.Desk.was c.args.root.now bytes commands c.args.desk.now c.start.new.desk c.run_session.new.desk c.run_session.result reads is.recovered (c.start.ensures.crash h)
+    (subst (λ (r : List ℕ). IsSessionRun r commands mid (g.D.Desk.standing c.run_session.new.desk) (AtEachCrash g.D.Desk.time g.D.Desk.was c.start.new.desk c.run_session.new.desk) c.run_session.result) named
+    (c.run_session.ensures.output h old (subst (λ (r : List ℕ). IsStarted r old mid c.in-Ok.session) (sym named) is)))
+
+pub returns-in-Ok-clause-exact : goal.returns-in-Ok-clause-exact
+returns-in-Ok-clause-exact g c = λ h bytes reads.
+    let old = g.D.Desk.standing c.args.desk.now in
+    let mid = g.D.Desk.standing c.start.new.desk in
+    let is = c.in-Ok.ensures.value h in
+    opened_steps c.args.root.now bytes old.files (map command_of c.args.commands.now) (book_files mid.files) c.run_session.result c.args.steps.now c.start.new.steps c.run_session.new.steps (length c.args.commands.now) reads is.recovered.book
+    ((c.in-Ok.ensures.exact h).exact tt) c.run_session.ensures.count.0 c.run_session.ensures.count.1 (sym (length-map c.args.commands.now command_of))
+
+pub returns-in-Err-Desk-clause-output : goal.returns-in-Err-Desk-clause-output
+returns-in-Err-Desk-clause-output g c = λ h bytes reads.
+    let start = g.D.Desk.standing c.args.desk.now in
+    failed_run g.D.Desk.standing g.D.Desk.time g.D.Desk.was c.args.root.now bytes (map command_of c.args.commands.now) c.args.desk.now c.start.new.desk 6 (inl refl) reads
+    (told_stays g.D.Desk.tells g.D.Desk.standing g.D.Desk.time g.D.Desk.was g.met.D.Desk.counts_now g.met.D.Desk.only_now h c.args.desk.now c.start.new.desk (IsStartOrRecovered start) start.told (c.start.ensures.crash h) (λ crash is. is.told))
+    (c.start.ensures.none h) (c.start.ensures.crash h)
+
+pub returns-in-Err-NoMemory-clause-output : goal.returns-in-Err-NoMemory-clause-output
+returns-in-Err-NoMemory-clause-output g c = λ h bytes reads.
+    let start = g.D.Desk.standing c.args.desk.now in
+    failed_run g.D.Desk.standing g.D.Desk.time g.D.Desk.was c.args.root.now bytes (map command_of c.args.commands.now) c.args.desk.now c.start.new.desk 7 (inr refl) reads
+    (told_stays g.D.Desk.tells g.D.Desk.standing g.D.Desk.time g.D.Desk.was g.met.D.Desk.counts_now g.met.D.Desk.only_now h c.args.desk.now c.start.new.desk (IsStartOrRecovered start) start.told (c.start.ensures.crash h) (λ crash is. is.told))
+    (c.start.ensures.none h) (c.start.ensures.crash h)
+
+pub returns-in-Err-Journal-clause-output : goal.returns-in-Err-Journal-clause-output
+returns-in-Err-Journal-clause-output g c = λ h bytes reads.
+    let fault = rw c.in-Err-Journal.field-0-is at (c.in-Err-Journal.ensures.fault h) in
+    damaged_run g.D.Desk.standing g.D.Desk.time g.D.Desk.was c.args.root.now bytes (map command_of c.args.commands.now) c.args.desk.now c.start.new.desk c.tell.new.desk c.tell.result reads fault.0 fault.1 (c.start.ensures.crash h) (c.tell.ensures.output h)
+
+pub returns-in-Err-Missing-clause-output : goal.returns-in-Err-Missing-clause-output
+returns-in-Err-Missing-clause-output g c = λ h bytes reads.
+    let root = c.args.root.now in
+    let is = rw c.in-Err-Missing.field-0-is at (c.in-Err-Missing.ensures.fault h) in
+    closed_run g.D.Desk.standing g.D.Desk.time g.D.Desk.was root bytes (missing_line root) (map command_of c.args.commands.now) c.args.desk.now c.start.new.desk c.tell_closed.new.desk c.tell_closed.result reads is.recovered
+    (missing is.none refl refl refl) (c.start.ensures.crash h)
+    (subst (λ (r : List ℕ). IsToldWith 3 (missing_line r) (g.D.Desk.standing c.start.new.desk) (g.D.Desk.standing c.tell_closed.new.desk) (AtEachCrash g.D.Desk.time g.D.Desk.was c.start.new.desk c.tell_closed.new.desk) c.tell_closed.result)
+    (c.as_bytes.ensures.value ∙ c.as_str.ensures.value) (c.tell_closed.ensures.output h))
+
+pub returns-in-Err-NotYet-clause-output : goal.returns-in-Err-NotYet-clause-output
+returns-in-Err-NotYet-clause-output g c = λ h bytes reads.
+    let root = c.args.root.now in
+    let is = rw c.in-Err-NotYet.field-0-is at (c.in-Err-NotYet.ensures.fault h) in
+    closed_run g.D.Desk.standing g.D.Desk.time g.D.Desk.was root bytes (not_yet_line root) (map command_of c.args.commands.now) c.args.desk.now c.start.new.desk c.tell_closed-in-Err-NotYet.new.desk c.tell_closed-in-Err-NotYet.result reads is.recovered
+    (not_yet is.document.bytes is.document.found is.document.never refl refl refl) (c.start.ensures.crash h)
+    (subst (λ (r : List ℕ). IsToldWith 3 (not_yet_line r) (g.D.Desk.standing c.start.new.desk) (g.D.Desk.standing c.tell_closed-in-Err-NotYet.new.desk) (AtEachCrash g.D.Desk.time g.D.Desk.was c.start.new.desk c.tell_closed-in-Err-NotYet.new.desk) c.tell_closed-in-Err-NotYet.result)
+    (c.as_bytes-in-Err-NotYet.ensures.value ∙ c.as_str-in-Err-NotYet.ensures.value) (c.tell_closed-in-Err-NotYet.ensures.output h))
