@@ -4,11 +4,9 @@
 --   IsCut          a front of what is told next, which is not all of the next reply
 --   IsSameInAll    a file that is in each book saved as it was in the first
 --   IsOfOneBurst   the files of one save are recovered, and what was told is a front of the output
---   IsStopped      .. or nothing was told, and the files are as a crash at the start could have left them
---   IsUntouched    the files are as a crash at the start could have left them
 use Rattle.std.specs.Prelude.{◌≡◌, ◌⊎◌, ℕ, ◌<◌, List, [], ◌∷◌, ◌++◌, length, take, Some}
 use Rattle.bk_desk.specs.declared.desk_name.DeskName.TheVariants as desk_name
-use Rattle.bk_desk.specs.Disk.{DiskState, CrashState, IsCrashImage}
+use Rattle.bk_desk.specs.Disk.{DiskState, CrashState}
 use Rattle.ed_spec.specs.Book.{Book}
 use Rattle.ed_spec.specs.Session.{Step}
 use Rattle.jr_burst.specs.SavedFiles.{recovered_files}
@@ -46,12 +44,3 @@ pub record IsOfOneBurst (start : DiskState) (first : Book) (steps : List Step) (
   pub cut : IsCut (take count (replies_text rest ++ last)) rest
   pub recovers : (recovered_files crash.image ≡ Some (saved_after first whole)) ⊎ (recovered_files crash.image ≡ Some (saved_next (saved_after first whole) rest))
   pub others : (name : List ℕ) → IsSameInAll first steps name → crash.image (desk_name.Book name) ≡ first name
-
--- where something was pending at the start and nothing was told, the files may be as a crash at the start could have left them
-abbrev pub IsStopped : DiskState → Book → List Step → List ℕ → CrashState → Type 0
-IsStopped start first steps last crash = IsOfOneBurst start first steps last crash ⊎ ((crash.told ≡ start.told) × IsCrashImage start crash.image)
-
--- a run that ends before it recovers
-pub record IsUntouched (start : DiskState) (crash : CrashState) : Type 0 where
-  pub image : IsCrashImage start crash.image
-  pub told : (more : List ℕ) × (crash.told ≡ start.told ++ more)

@@ -83,8 +83,8 @@ fn run_book<D: Desk, L: Ledger>(
         }
         Err(StartFault::Desk) => FAULT,
         Err(StartFault::Journal) => tell(desk, JOURNAL_LINE, 8),
-        Err(StartFault::Missing) => tell_closed(alloc, b"fault Missing ", root.as_str().as_bytes(), desk),
-        Err(StartFault::NotYet) => tell_closed(alloc, b"fault NotYet ", root.as_str().as_bytes(), desk),
+        Err(StartFault::Missing) => tell_closed(alloc, b"fault Missing ", root, desk),
+        Err(StartFault::NotYet) => tell_closed(alloc, b"fault NotYet ", root, desk),
         Err(StartFault::NoMemory) => NO_MEMORY,
     }
 }

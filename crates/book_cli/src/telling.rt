@@ -7,6 +7,7 @@ ghost use Rattle.book_cli.specs.Leaves.{KeepsFiles};
 ghost use Rattle.book_cli.specs.Ends.{IsToldWith};
 
 use bk_desk::{Desk, DeskErr};
+use bk_name::Name;
 use bk_run::{line, numbered};
 use bk_script::ScriptFault;
 use std::alloc::{AllocError, Global};
@@ -32,12 +33,12 @@ pub(crate) fn tell<D: Desk>(desk: &mut D, text: &[u8], status: u8) -> u8
 }
 
 /// Tells the line that says why a root did not open.
-pub(crate) fn tell_closed<D: Desk>(alloc: Global, front: &[u8], root: &[u8], desk: &mut D) -> u8
+pub(crate) fn tell_closed<D: Desk>(alloc: Global, front: &[u8], root: &Name, desk: &mut D) -> u8
     ensures value { (result ≡ 3) ⊎ ((result ≡ 6) ⊎ (result ≡ 7)) }
     ensures output { IsTrue D.tells → IsToldWith 3 (front.now ++ root.now ++ codes "\n") (D.standing desk.old) (D.standing desk.new) (AtEachCrash D.time D.was desk.old desk.new) result }
     ensures cause_desk { HasCause (D.faults desk.old) (D.faults desk.new) (result ≡ 6) }
 {
-    match line(alloc, front, root) {
+    match line(alloc, front, root.as_str().as_bytes()) {
         Ok(text) => tell(desk, &text, 3),
         Err(_) => NO_MEMORY,
     }

@@ -55,8 +55,7 @@ returns-in-Err-Missing-clause-output g c = λ h bytes reads.
     let is = rw c.in-Err-Missing.field-0-is at (c.in-Err-Missing.ensures.fault h) in
     closed_run g.D.Desk.standing g.D.Desk.time g.D.Desk.was root bytes (missing_line root) (map command_of c.args.commands.now) c.args.desk.now c.start.new.desk c.tell_closed.new.desk c.tell_closed.result reads is.recovered
     (missing is.none refl refl refl) (c.start.ensures.crash h)
-    (subst (λ (r : List ℕ). IsToldWith 3 (missing_line r) (g.D.Desk.standing c.start.new.desk) (g.D.Desk.standing c.tell_closed.new.desk) (AtEachCrash g.D.Desk.time g.D.Desk.was c.start.new.desk c.tell_closed.new.desk) c.tell_closed.result)
-    (c.as_bytes.ensures.value ∙ c.as_str.ensures.value) (c.tell_closed.ensures.output h))
+    (c.tell_closed.ensures.output h)
 
 pub returns-in-Err-NotYet-clause-output : goal.returns-in-Err-NotYet-clause-output
 returns-in-Err-NotYet-clause-output g c = λ h bytes reads.
@@ -64,5 +63,4 @@ returns-in-Err-NotYet-clause-output g c = λ h bytes reads.
     let is = rw c.in-Err-NotYet.field-0-is at (c.in-Err-NotYet.ensures.fault h) in
     closed_run g.D.Desk.standing g.D.Desk.time g.D.Desk.was root bytes (not_yet_line root) (map command_of c.args.commands.now) c.args.desk.now c.start.new.desk c.tell_closed-in-Err-NotYet.new.desk c.tell_closed-in-Err-NotYet.result reads is.recovered
     (not_yet is.document.bytes is.document.found is.document.never refl refl refl) (c.start.ensures.crash h)
-    (subst (λ (r : List ℕ). IsToldWith 3 (not_yet_line r) (g.D.Desk.standing c.start.new.desk) (g.D.Desk.standing c.tell_closed-in-Err-NotYet.new.desk) (AtEachCrash g.D.Desk.time g.D.Desk.was c.start.new.desk c.tell_closed-in-Err-NotYet.new.desk) c.tell_closed-in-Err-NotYet.result)
-    (c.as_bytes-in-Err-NotYet.ensures.value ∙ c.as_str-in-Err-NotYet.ensures.value) (c.tell_closed-in-Err-NotYet.ensures.output h))
+    (c.tell_closed-in-Err-NotYet.ensures.output h)
