@@ -1,10 +1,10 @@
 -- What a run that ends in either way has told and left.
-use Rattle.std.proofs.Common.{◌≡◌, ◌⊎◌, ℕ, List, true, false, Option, subst}
+use Rattle.std.proofs.Common.{◌≡◌, ℕ, List, true, false, Option, subst}
 use Rattle.std.specs.Prelude.{IsTrue}
 use Rattle.bk_desk.specs.Disk.{DiskState, CrashState}
 use Rattle.book_cli.specs.Output.{source_line, is_exit_status, WritesOutput, RootOutput}
 use Rattle.book_cli.specs.Leaves.{RecoveredBook, recovers_book, MayCrashIn, IsBookSaved}
-use Rattle.book_cli.specs.Ends.{AnswersWith, whole, cut, IsSourceFault, EndsBy, output, source, EndsEarly, in_part, at_source}
+use Rattle.book_cli.specs.Ends.{AnswersWith, whole, cut, EndsBy, output, source, EndsEarly, in_part, at_source}
 use Rattle.book_cli.proofs.RunLemmas.{not_whole, not_over}
 
 -- the answer of a run whose source failed is no status of an output

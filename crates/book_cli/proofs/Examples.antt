@@ -1,5 +1,5 @@
 -- The definitions of this crate, computed on right and on wrong cases.
-use Rattle.std.proofs.Common.{◌≡◌, ℕ, List, [], ◌∷◌, refl, codes, true, false, Option, Some, None}
+use Rattle.std.proofs.Common.{◌≡◌, [], ◌∷◌, refl, codes, true, false, Some, None}
 use Rattle.std.specs.Str.{is_utf8, chars}
 use Rattle.std.proofs.Math.Utf8.{encode}
 use Rattle.bk_name.specs.FileName.{is_file_name}

@@ -1,5 +1,5 @@
 -- Runs that recover no book, and what is read of a script.
-use Rattle.std.proofs.Common.{◌≡◌, ◌≤◌, ◌<◌, ◌+◌, ◌∙◌, ◌⊎◌, ℕ, List, [], ◌++◌, true, false, Option, Some, length, refl, sym, ap, subst, arith, inl, inr, ⊎_elim, length-append}
+use Rattle.std.proofs.Common.{◌≡◌, ◌<◌, ◌∙◌, ◌⊎◌, ℕ, List, [], ◌++◌, true, false, Option, Some, length, refl, sym, ap, subst, arith, inl, inr, ⊎_elim, length-append}
 use Rattle.std.specs.Prelude.{IsTrue}
 use Rattle.std.proofs.lemmas.List.{append-nil}
 use Rattle.bk_desk.specs.Disk.{DiskImage, DiskState, CrashState, IsCrashState, WhileTelling}
@@ -12,9 +12,9 @@ use Rattle.bk_script.specs.declared.script.ScriptFault.TheVariants.{Long, BadLin
 use Rattle.std.specs.Fmt.{decimal}
 use Rattle.std.specs.Prelude.{codes}
 use Rattle.bk_run.specs.Input.{IsInput}
-use Rattle.book_cli.specs.Output.{IsScriptLine, is_book_status, RootOutput, no_script}
-use Rattle.book_cli.specs.Leaves.{RecoveredBook, is_still, recovers_book, MayCrashIn, early, still, TakesRunSteps}
-use Rattle.book_cli.specs.Ends.{AnswersWith, whole, cut, IsToldWith, IsRunOver}
+use Rattle.book_cli.specs.Output.{IsScriptLine, RootOutput, no_script}
+use Rattle.book_cli.specs.Leaves.{is_still, recovers_book, MayCrashIn, early, still, TakesRunSteps}
+use Rattle.book_cli.specs.Ends.{IsToldWith, IsRunOver}
 use Rattle.book_cli.proofs.RunLemmas.{not_whole, not_over, told_output, told_prefix, ended}
 
 -- ---- the bytes of a script

@@ -1,5 +1,5 @@
 -- The output of a run with commands, on right and on wrong cases.
-use Rattle.std.proofs.Common.{◌≡◌, ℕ, List, [], ◌∷◌, ◌++◌, refl, sym, ap, arith, codes, true, false, Some, None}
+use Rattle.std.proofs.Common.{◌≡◌, ℕ, List, [], ◌∷◌, ◌++◌, refl, sym, ap, arith, codes, true, false, Some, None, inl, inr}
 use Rattle.std.proofs.lemmas.Fmt.{decimal_digit}
 use Rattle.std.specs.Str.{is_utf8, chars}
 use Rattle.std.proofs.Math.Utf8.{encode}
@@ -7,13 +7,16 @@ use Rattle.ed_spec.specs.Book.{Book}
 use Rattle.ed_spec.specs.Edit.{bad_range}
 use Rattle.ed_spec.specs.Session.{Session, done, refused}
 use Rattle.bk_desk.specs.declared.desk_name.DeskName.TheVariants as desk
-use Rattle.bk_desk.specs.Disk.{DiskImage}
+use Rattle.bk_desk.specs.Disk.{DiskImage, DiskState, CrashState, IsCrashImage}
 use Rattle.bk_script.specs.Script.{IsScript}
 use Rattle.bk_script.specs.Reading.{command_at, line_of, lines_of, lines_read, parts_of, script_read, word_at}
 use Rattle.bk_script.specs.declared.script.ScriptFault.TheVariants.{BadLine, NoMemory}
 use Rattle.bk_script.proofs.Scripts.{script_takes}
 use Rattle.jr_burst.specs.SavedFiles.{open_text}
 use Rattle.book_cli.specs.Output.{usage_line, journal_line, IsScriptLine, status_after, missing, BookOutput, ScriptOutput, damaged, IsOutput, is_exit_status}
+use Rattle.book_cli.specs.Leaves.{is_still, recovers_book, MayCrashIn, early, still, recovering, saving}
+use Rattle.book_cli.specs.Ends.{AnswersWith, whole, cut}
+use Rattle.book_cli.proofs.OutputLemmas.{none_some}
 
 -- without words the usage line, and no other
 usage : (bytes : List ℕ) (files : DiskImage) → IsOutput [] bytes files 2 usage_line
@@ -53,8 +56,38 @@ no_journal : (root : List ℕ) → ScriptOutput root [] gate_alone 8 journal_lin
 no_journal root = damaged [] no_commands refl refl refl
 
 -- 6 and 7 come with no whole output
-whole : is_exit_status 8 ≡ true
-whole = refl
+of_an_output : is_exit_status 8 ≡ true
+of_an_output = refl
 
-in_part : is_exit_status 6 ≡ false
-in_part = refl
+of_none : is_exit_status 6 ≡ false
+of_none = refl
+
+-- a text that was told whole, and in part
+told_whole : AnswersWith 0 (codes "ok\n") [] (codes "ok\n") 0
+told_whole = whole refl refl
+
+told_in_part : AnswersWith 0 (codes "ok\n") [] (codes "o") 6
+told_in_part = cut (inl refl) 1 refl
+
+-- with its status it is whole
+not_in_part : AnswersWith 0 (codes "ok\n") [] (codes "o") 0 → ⊥
+not_in_part (whole is told) = absurd (cc)
+not_in_part (cut (inl is) count told) = absurd (cc)
+not_in_part (cut (inr is) count told) = absurd (cc)
+
+-- with 4 no book was recovered, with 3 one was
+four_is_still : is_still 4 ≡ true
+four_is_still = refl
+
+three_is_not : is_still 3 ≡ false
+three_is_not = refl
+
+three_recovers : recovers_book 3 ≡ true
+three_recovers = refl
+
+-- where the words have no reading, a crash leaves what one at the start could
+no_reading : (bytes : List ℕ) (start : DiskState) (crash : CrashState) → MayCrashIn None bytes start crash → IsCrashImage start crash.image
+no_reading bytes start crash (early is) = is.image
+no_reading bytes start crash (still status text gives is at) = at.image
+no_reading bytes start crash (recovering of at) = absurd (none_some (List ℕ) of.name None refl of.named)
+no_reading bytes start crash (saving of steps last status run at) = absurd (none_some (List ℕ) of.name None refl of.named)

@@ -21,7 +21,7 @@ use Rattle.ed_session.specs.Start.{file_steps, recovered_steps}
 use Rattle.bk_run.specs.Replies.{replies_text}
 use Rattle.bk_run.specs.Stops.{IsOfOneBurst}
 use Rattle.book_cli.specs.Output.{journal_line, is_exit_status, WritesOutput, WritesPrefix, IsBookRun, ran, status_after, damaged, recovered, RootOutput}
-use Rattle.book_cli.specs.Leaves.{RecoveredBook, recovers_book, IsWhileSaving, MayCrashIn, early, still, recovering, saving, AreSavedBy, IsBookSaved, TakesRunSteps}
+use Rattle.book_cli.specs.Leaves.{RecoveredBook, recovers_book, IsWhileSaving, MayCrashIn, early, still, recovering, saving, AreSavedBy, TakesRunSteps}
 use Rattle.book_cli.specs.Ends.{AnswersWith, whole, cut, IsToldWith, IsSessionRun, IsRunOver}
 use Rattle.book_cli.proofs.OutputLemmas.{some_same, none_some}
 

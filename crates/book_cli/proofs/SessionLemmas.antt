@@ -1,15 +1,14 @@
 -- Commands over a session that was started, their replies, and the tree behind them.
-use Rattle.std.proofs.Common.{◌≡◌, ◌≤◌, ◌<◌, ◌+◌, ◌∙◌, ◌⊎◌, ℕ, List, ◌++◌, Bool, true, false, if◌then◌else◌, Some, length, take, map, refl, sym, ap, ap₂, subst, arith, inl, inr, ⊎_elim, append_assoc}
+use Rattle.std.proofs.Common.{◌≡◌, ◌≤◌, ◌<◌, ◌+◌, ◌∙◌, ◌⊎◌, ℕ, List, ◌++◌, Bool, true, false, if◌then◌else◌, Some, length, take, map, sym, ap, subst, arith, ⊎_elim, append_assoc}
 use Rattle.std.proofs.Math.Seq.{take-append-add, take-length}
 use Rattle.std.proofs.lemmas.Bool.{cases_lt}
 use Rattle.std.proofs.lemmas.List.{take_all, take-append-le}
-use Rattle.xt_spec.specs.Tree.{Items}
 use Rattle.bk_desk.specs.declared.desk_name.DeskName.TheVariants.{Gate}
 use Rattle.bk_desk.specs.Disk.{DiskState, CrashState, DiskImage, WhileTelling}
 use Rattle.bk_desk.specs.CrashPoints.{AtEachCrash}
 use Rattle.bk_desk.proofs.CrashPoints.{joined, weaker}
 use Rattle.jr_burst.specs.SavedFiles.{book_files, is_open_gate}
-use Rattle.ed_spec.specs.Book.{Book, Opens}
+use Rattle.ed_spec.specs.Book.{Book}
 use Rattle.ed_spec.specs.Session.{Session, Step, opened, DoesAll}
 use Rattle.ed_laws.proofs.Theorems.{one_run}
 use Rattle.ed_session.specs.Kept.{Kept}
@@ -18,13 +17,12 @@ use Rattle.bk_script.specs.declared.command.Command.{Command}
 use Rattle.bk_script.specs.View.{command_of}
 use Rattle.bk_run.specs.Replies.{replies_text, any_refused}
 use Rattle.bk_run.specs.Stops.{saved_after, IsOfOneBurst}
-use Rattle.bk_run.specs.Doing.{asked_of, Stands}
+use Rattle.bk_run.specs.Doing.{asked_of}
 use Rattle.bk_run.specs.Telling.{AreTold}
 use Rattle.bk_run.proofs.DoingLemmas.{file_there, start_opens}
 use Rattle.bk_run.proofs.RunLemmas.{opened_runs}
 use Rattle.bk_run.proofs.TellingLemmas.{asks_all, saved_by, stop_last}
 use Rattle.book_cli.specs.Output.{IsTree, IsRun, status_after}
-use Rattle.book_cli.specs.Leaves.{AreSavedBy}
 use Rattle.book_cli.specs.Ends.{AnswersWith, whole, cut, IsToldWith, IsSessionRun}
 use Rattle.book_cli.proofs.OutputLemmas.{tree_exists}
 

@@ -1,10 +1,10 @@
 -- A text that is told, whole or in part.
-use Rattle.std.proofs.Common.{◌≡◌, ◌∙◌, ◌⊎◌, ℕ, List, ◌++◌, take, refl, sym, inl, inr}
+use Rattle.std.proofs.Common.{◌≡◌, ◌∙◌, ◌⊎◌, ℕ, List, refl, sym, inr}
 use Rattle.std.proofs.lemmas.List.{append-nil}
 use Rattle.bk_desk.specs.Disk.{DiskState, CrashState, IsCrashState, WhileTelling, TellsPrefix}
 use Rattle.bk_desk.specs.CrashPoints.{Elapses, AtEachCrash}
 use Rattle.bk_desk.proofs.CrashPoints.{started, goes_on}
-use Rattle.book_cli.specs.Ends.{AnswersWith, whole, cut, IsToldWith}
+use Rattle.book_cli.specs.Ends.{cut, IsToldWith}
 
 -- before a call tells anything
 pub not_begun : (text : List ℕ) (start : DiskState) (crash : CrashState) → IsCrashState start crash → WhileTelling text start crash

@@ -9,7 +9,6 @@
 --   EndsBy           a run of one of these two kinds
 --   EndsEarly        .. that ends with 6 or 7
 use Rattle.std.specs.Prelude.{◌≡◌, ◌⊎◌, ℕ, List, ◌++◌, take, IsTrue, Option, Some}
-use Rattle.ed_spec.specs.Book.{Book}
 use Rattle.ed_spec.specs.Session.{Step}
 use Rattle.bk_desk.specs.Disk.{DiskState, CrashState, WhileTelling}
 use Rattle.jr_burst.specs.SavedFiles.{book_files}

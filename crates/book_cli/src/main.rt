@@ -1,4 +1,4 @@
-//! `bookedit`: opens an XML document and prints its tree.
+//! `bookedit`: carries out the commands of a script over an XML document, and prints its tree.
 #![tactic(auto)]
 
 ghost use Rattle.std.specs.Prelude.{◌≡◌};
@@ -22,7 +22,7 @@ use std::process::ExitCode;
 use std::sync::ledger::{Blank, Ledger};
 use xt_lex::Steps;
 
-/// The run over the current folder, standard input and standard output.
+/// The run over the current folder, with standard input as the script, and standard output.
 fn run_on<L: Ledger>(rt: &HostRuntime, words: &[String], blank: Blank) -> u8
     requires name { blank.name ≡ L.name }
     requires parts { blank.parts ≡ L.parts }

@@ -1,11 +1,11 @@
 -- How many steps a start takes.
-use Rattle.std.proofs.Common.{◌≡◌, ◌∙◌, ℕ, ◌≤◌, ◌+◌, List, length, Bool, true, false, refl, sym, ap, subst, Option, Some, None, nat_le, if◌then◌else◌, Result, Ok, Err}
+use Rattle.std.proofs.Common.{◌≡◌, ◌∙◌, ℕ, List, length, Bool, true, false, refl, sym, ap, subst, Option, Some, None, nat_le, if◌then◌else◌, Result, Ok, Err}
 use Rattle.std.specs.Prelude.{IsErrOf}
 use Rattle.bk_desk.specs.declared.desk.Got.{Got}
 use Rattle.bk_desk.specs.declared.desk.Got.TheVariants.{Bytes, Longer}
 use Rattle.bk_desk.specs.declared.desk_name.DeskName.TheVariants.{Book}
 use Rattle.bk_desk.specs.Disk.{DiskState, got_of}
-use Rattle.jr_burst.specs.SavedFiles.{Files, book_files, recovered_files}
+use Rattle.jr_burst.specs.SavedFiles.{recovered_files}
 use Rattle.jr_burst.specs.Recover.{IsRecovered}
 use Rattle.ed_session.specs.declared.opening.StartFault.{StartFault}
 use Rattle.ed_session.specs.declared.opening.StartFault.TheVariants as start

@@ -1,4 +1,4 @@
-use Rattle.std.proofs.Common.{◌∙◌, ℕ, List, length, map, refl, sym, inl, inr, subst}
+use Rattle.std.proofs.Common.{ℕ, List, length, map, refl, sym, inl, inr, subst}
 use Rattle.std.proofs.lemmas.List.{length-map}
 use Rattle.bk_desk.specs.CrashPoints.{AtEachCrash}
 use Rattle.jr_burst.specs.SavedFiles.{book_files}
@@ -7,7 +7,7 @@ use Rattle.bk_script.specs.View.{command_of}
 use Rattle.ed_session.specs.Start.{IsStarted}
 use Rattle.bk_run.proofs.DoingLemmas.{told_stays}
 use Rattle.book_cli.specs.Output.{missing_line, not_yet_line, missing, not_yet}
-use Rattle.book_cli.specs.Ends.{IsToldWith, IsSessionRun}
+use Rattle.book_cli.specs.Ends.{IsSessionRun}
 use Rattle.book_cli.proofs.RunLemmas.{opened_run, closed_run, damaged_run, failed_run, opened_steps}
 use Rattle.book_cli.proofs.run.run_book.Goals as goal
 
