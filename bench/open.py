@@ -1,5 +1,5 @@
 #!/usr/bin/env python3
-"""Times the proved program's open and print against xmllint, on plain documents of 1, 2 and 4 MiB.
+"""Times the proved program's open and print against xmllint, on plain documents of 1, 2 and 4 MiB; or counts instructions.
 
 Each output is first compared with lines that are rendered here from Python's own XML parser. bench/README.md says more.
 """
@@ -8,6 +8,7 @@ import hashlib
 import os
 import platform
 import random
+import re
 import shutil
 import statistics
 import subprocess
@@ -16,11 +17,11 @@ import tempfile
 import time
 import xml.parsers.expat
 from pathlib import Path
+from typing import NamedTuple
 
 TOP = Path(__file__).resolve().parent.parent
 MIB = 1_048_576
 LINEAR = 4.4
-KEPT = "## What changes gave"
 WORDS = (
     "the of and a to in is that it was for on are with as his they be at one have this from or had by hot word but what "
     "some we can out other were all there when up use your how said an each she which do their time if will way about many "
@@ -102,7 +103,14 @@ def text(size):
 
 
 CLASSES = {"book": book, "deep": deep, "nodes": nodes, "attributes": attributes, "text": text, "wide": wide}
-USUAL = ["book", "deep", "nodes", "attributes", "text"]
+
+
+class Run(NamedTuple):
+    """Processor time of one command on one document, in seconds, and its greatest resident size, in KiB."""
+
+    median: float
+    least: float
+    peak: int
 
 
 class Expected:
@@ -205,66 +213,113 @@ def peak_memory(command, folder):
     return peak
 
 
-def measured(commands, folder, repeats):
-    """Medians of time and memory of each command; the commands take turns, so that a busy spell meets all."""
-    times = {name: [] for name in commands}
+def measured(commands, folders, repeats):
+    """Times and memory of each size and command. All take turns, so that a busy spell or a slower clock meets each of them."""
+    times = {(size, name): [] for size in folders for name in commands}
     for _ in range(repeats):
+        for size, folder in folders.items():
+            for name, command in commands.items():
+                times[size, name].append(processor_time(command, folder))
+    rows = {}
+    for size, folder in folders.items():
         for name, command in commands.items():
-            times[name].append(processor_time(command, folder))
-    peaks = {name: max(peak_memory(command, folder) for _ in range(min(3, repeats))) for name, command in commands.items()}
-    return {name: (statistics.median(times[name]), peaks[name]) for name in commands}
+            peak = max(peak_memory(command, folder) for _ in range(min(3, repeats)))
+            rows[size, name] = Run(statistics.median(times[size, name]), min(times[size, name]), peak)
+    return rows
+
+
+def instructions(command, folder):
+    """How many instructions one run takes outside of the kernel, by callgrind."""
+    counted = ["valgrind", "--tool=callgrind", "--callgrind-out-file=/dev/null", *command]
+    ran = subprocess.run(counted, cwd=folder, stdin=subprocess.DEVNULL, stdout=subprocess.DEVNULL, stderr=subprocess.PIPE, text=True)
+    found = re.search(r"Collected : (\d+)", ran.stderr)
+    if ran.returncode != 0 or not found:
+        sys.exit(f"bench: status {ran.returncode} from {counted}")
+    return int(found.group(1))
 
 
 def ratio(a, b):
     return f"{a / b:.2f}" if b else "-"
 
 
-def table_of(rows):
+def mib_of(size):
+    return int(size) if size == int(size) else size
+
+
+def times_of(rows):
     lines = [
-        "| Document | Size | Nodes | Printed | Program | `--noout` | `--xinclude` | CPU ratio to `--noout` | to `--xinclude` | Memory | `--noout` | Memory ratio |",
-        "|---|---|---|---|---|---|---|---|---|---|---|---|",
+        "| Document | Size | Nodes | Printed | Program | `--noout` | `--xinclude` | CPU ratio to `--noout` | least to least | to `--xinclude` | Memory | `--noout` | Memory ratio |",
+        "|---|---|---|---|---|---|---|---|---|---|---|---|---|",
     ]
     for row in rows:
-        ours, noout, xinclude = row["runs"]["program"], row["runs"]["noout"], row["runs"]["xinclude"]
+        ours, noout, xinclude = (row["runs"][name] for name in ("program", "noout", "xinclude"))
         lines.append(
-            f"| {row['name']} | {row['mib']} MiB | {row['nodes']:,} | {row['printed'] / MIB:.1f} MiB | {ours[0] * 1000:.1f} ms | {noout[0] * 1000:.1f} ms | {xinclude[0] * 1000:.1f} ms "
-            f"| {ratio(ours[0], noout[0])} | {ratio(ours[0], xinclude[0])} | {ours[1] / 1024:.1f} MiB | {noout[1] / 1024:.1f} MiB | {ratio(ours[1], noout[1])} |"
+            f"| {row['name']} | {row['mib']} MiB | {row['nodes']:,} | {row['printed'] / MIB:.1f} MiB "
+            f"| {ours.median * 1000:.1f} ms | {noout.median * 1000:.1f} ms | {xinclude.median * 1000:.1f} ms "
+            f"| {ratio(ours.median, noout.median)} | {ratio(ours.least, noout.least)} | {ratio(ours.median, xinclude.median)} "
+            f"| {ours.peak / 1024:.1f} MiB | {noout.peak / 1024:.1f} MiB | {ratio(ours.peak, noout.peak)} |"
         )
-    return lines
-
-
-def linear_of(rows):
-    lines = ["| Document | from | to | Time ratio | At most |", "|---|---|---|---|---|"]
-    for name in dict.fromkeys(row["name"] for row in rows):
-        sizes = {row["mib"]: row["runs"]["program"][0] for row in rows if row["name"] == name}
+    lines += ["", "Linear, by time:", "", "| Document | from | to | Medians | Least times | At most |", "|---|---|---|---|---|---|"]
+    for name, sizes in by_name(rows):
         if 1 in sizes and 4 in sizes:
-            lines.append(f"| {name} | 1 MiB | 4 MiB | {ratio(sizes[4], sizes[1])} | {LINEAR} |")
+            small, large = sizes[1]["runs"]["program"], sizes[4]["runs"]["program"]
+            lines.append(f"| {name} | 1 MiB | 4 MiB | {ratio(large.median, small.median)} | {ratio(large.least, small.least)} | {LINEAR} |")
     return lines
 
 
-def results(rows, repeats, load, version):
+def counts_of(rows):
+    lines = ["| Document | Size | Program | `--noout` | Ratio |", "|---|---|---|---|---|"]
+    for row in rows:
+        ours, noout = row["counts"]["program"], row["counts"].get("noout")
+        peer = f"{noout / 1e6:.1f} | {ratio(ours, noout)}" if noout else "- | -"
+        lines.append(f"| {row['name']} | {row['mib']} MiB | {ours / 1e6:.1f} | {peer} |")
+    lines += ["", "Linear, by instructions:", "", "| Document | from | to | Ratio | At most |", "|---|---|---|---|---|"]
+    for name, sizes in by_name(rows):
+        if 1 in sizes and 4 in sizes:
+            lines.append(f"| {name} | 1 MiB | 4 MiB | {ratio(sizes[4]['counts']['program'], sizes[1]['counts']['program'])} | {LINEAR} |")
+    return lines
+
+
+def by_name(rows):
+    """The rows of each class, by their size."""
+    for name in dict.fromkeys(row["name"] for row in rows):
+        yield name, {row["mib"]: row for row in rows if row["name"] == name}
+
+
+def steeper(rows, cost):
+    """The classes in which 4 MiB cost more than the limit allows."""
+    for name, sizes in by_name(rows):
+        if 1 in sizes and 4 in sizes and cost(sizes[4]) > LINEAR * cost(sizes[1]):
+            yield name
+
+
+def times_section(rows, repeats, load):
     now = os.getloadavg()
-    return "\n".join(
-        [
-            "# Results of bench/open.py",
-            "",
-            f"Medians of {repeats} runs each, processor time (user and system) and greatest resident memory. {os.cpu_count()} processors "
-            f"({platform.machine()}); load {load[0]:.1f} at the start and {now[0]:.1f} at the end. Peer: xmllint, {version}. Every output was the expected one, to the byte.",
-            "",
-            *table_of(rows),
-            "",
-            "Linear:",
-            "",
-            *linear_of(rows),
-            "",
-        ]
-    )
+    return [
+        f"Medians of {repeats} runs each, processor time (user and system) and greatest resident memory; \"least\" is the least of the {repeats}. "
+        f"{os.cpu_count()} processors ({platform.machine()}); load {load[0]:.1f} at the start and {now[0]:.1f} at the end. Peer: xmllint, {version_of_xmllint()}. "
+        "Every output was the expected one, to the byte.",
+        "",
+        *times_of(rows),
+    ]
 
 
-def kept(path):
-    """What was written by hand below the tables."""
-    text = path.read_text() if path.exists() else ""
-    return "\n" + text[text.index(KEPT):] if KEPT in text else ""
+def counts_section(rows):
+    return [
+        f"Millions of instructions of one run outside of the kernel, by `valgrind --tool=callgrind` ({platform.machine()}). Peer: xmllint, {version_of_xmllint()}. "
+        "Every output was the expected one, to the byte.",
+        "",
+        *counts_of(rows),
+    ]
+
+
+def put_section(path, title, lines):
+    """Writes a section of the page of results anew; the others stay as they are, those written by hand too."""
+    front, *sections = re.split(r"(?m)^(?=## )", path.read_text() if path.exists() else "")
+    found = {section.split("\n", 1)[0][3:]: section.strip() for section in sections}
+    found[title] = "\n".join([f"## {title}", "", *lines])
+    order = ["Times", "Instructions"] + [other for other in found if other not in ("Times", "Instructions")]
+    path.write_text("\n\n".join(["# Results of bench/open.py", *(found[one] for one in order if one in found)]) + "\n")
 
 
 def version_of_xmllint():
@@ -275,57 +330,100 @@ def version_of_xmllint():
     return "of unknown version"
 
 
-def main():
+def parsed():
     parser = argparse.ArgumentParser(description=__doc__)
-    parser.add_argument("--program", default=str(TOP / "crates/book_cli/out/book_cli"), help="the program to time")
+    parser.add_argument("--program", default=str(TOP / "crates/book_cli/out/book_cli"), help="the program to measure")
     parser.add_argument("--sizes", type=float, nargs="+", default=[1, 2, 4], help="in MiB, at most 4")
-    parser.add_argument("--classes", nargs="+", default=USUAL, choices=list(CLASSES))
-    parser.add_argument("--repeats", type=int, default=5)
-    parser.add_argument("--results", default=str(TOP / "bench/RESULTS.md"), help="the file to write; - for standard output alone")
+    parser.add_argument("--classes", nargs="+", default=list(CLASSES), choices=list(CLASSES))
+    parser.add_argument("--repeats", type=int, default=15)
+    parser.add_argument("--results", default=str(TOP / "bench/RESULTS.md"), help="the file whose section is written; - for standard output alone")
     parser.add_argument("--render", metavar="FILE", help="print the lines that are expected of this document, and end")
-    parser.add_argument("--check", action="store_true", help="compare the outputs alone, and time nothing")
+    parser.add_argument("--check", action="store_true", help="compare the outputs alone, and measure nothing")
+    parser.add_argument("--instructions", action="store_true", help="count instructions by valgrind, and time nothing")
+    parser.add_argument("--alone", action="store_true", help="with --instructions: without the peer")
     parser.add_argument("--anyway", action="store_true", help="also on a loaded machine")
-    words = parser.parse_args()
+    return parser.parse_args()
+
+
+def made(folder, name, sizes):
+    """A folder for each size, with the document in it."""
+    folders = {}
+    for size in sizes:
+        folders[mib_of(size)] = Path(folder) / name / str(mib_of(size))
+        folders[mib_of(size)].mkdir(parents=True)
+        (folders[mib_of(size)] / "book.xml").write_bytes(CLASSES[name](int(size * MIB)))
+    return folders
+
+
+def rows_of(words, commands, name, folders):
+    """The rows of a class; each output is compared first."""
+    expected = {mib: check_output(commands["program"], folder, (folder / "book.xml").read_bytes()) for mib, folder in folders.items()}
+    if words.check:
+        for mib, tree in expected.items():
+            print(f"{name} {mib} MiB: {tree.lines:,} lines as expected", flush=True)
+        return []
+    rows = [{"name": name, "mib": mib, "nodes": tree.elements + tree.texts, "printed": tree.bytes} for mib, tree in expected.items()]
+    if words.instructions:
+        counted = ("program",) if words.alone else ("program", "noout")
+        for row in rows:
+            row["counts"] = {one: instructions(commands[one], folders[row["mib"]]) for one in counted}
+            print(f"{name} {row['mib']} MiB: {row['counts']}", flush=True)
+        return rows
+    runs = measured(commands, folders, words.repeats)
+    for row in rows:
+        row["runs"] = {one: runs[row["mib"], one] for one in commands}
+        ours, noout = row["runs"]["program"], row["runs"]["noout"]
+        print(f"{name} {row['mib']} MiB: {ratio(ours.median, noout.median)} of --noout's time, {ratio(ours.peak, noout.peak)} of its memory", flush=True)
+    return rows
+
+
+def needs(words, program, load):
+    """What is wanting, where something is."""
+    if not program.is_file():
+        return f"no program at {program}; `rt run` in crates/book_cli builds it"
+    if words.check:
+        return None
+    if not shutil.which("xmllint"):
+        return "xmllint is wanted: apt-get install libxml2-utils"
+    if words.instructions:
+        return None if shutil.which("valgrind") else "valgrind is wanted: apt-get install valgrind"
+    if load[0] > os.cpu_count() / 2 and not words.anyway:
+        return f"the machine is busy (load {load[0]:.1f} on {os.cpu_count()} processors); --anyway runs it all the same"
+    return None
+
+
+def main():
+    words = parsed()
     if words.render:
         Expected(Path(words.render).read_bytes(), Path(words.render).name, sys.stdout.buffer)
         return
     load = os.getloadavg()
-    if load[0] > os.cpu_count() / 2 and not words.anyway and not words.check:
-        sys.exit(f"bench: the machine is busy (load {load[0]:.1f} on {os.cpu_count()} processors); --anyway runs it all the same")
     program = Path(words.program).resolve()
-    if not program.is_file():
-        sys.exit(f"bench: no program at {program}; `rt run` in crates/book_cli builds it")
-    if not words.check and not shutil.which("xmllint"):
-        sys.exit("bench: xmllint is wanted: apt-get install libxml2-utils")
+    wanting = needs(words, program, load)
+    if wanting:
+        sys.exit(f"bench: {wanting}")
     commands = {
         "program": [str(program), "book.xml"],
         "noout": ["xmllint", "--noout", "book.xml"],
         "xinclude": ["xmllint", "--xinclude", "book.xml"],
     }
     rows = []
-    with tempfile.TemporaryDirectory(prefix="bookedit-bench-") as folder:
-        for name in words.classes:
-            for size in words.sizes:
-                mib = int(size) if size == int(size) else size
-                document = CLASSES[name](int(size * MIB))
-                (Path(folder) / "book.xml").write_bytes(document)
-                expected = check_output(commands["program"], folder, document)
-                del document
-                if words.check:
-                    print(f"{name} {mib} MiB: {expected.lines:,} lines as expected", flush=True)
-                    continue
-                runs = measured(commands, folder, words.repeats)
-                rows.append({"name": name, "mib": mib, "nodes": expected.elements + expected.texts, "printed": expected.bytes, "runs": runs})
-                print(f"{name} {mib} MiB: {ratio(runs['program'][0], runs['noout'][0])} of --noout's time, {ratio(runs['program'][1], runs['noout'][1])} of its memory", flush=True)
+    for name in words.classes:
+        with tempfile.TemporaryDirectory(prefix="bookedit-bench-") as folder:
+            rows += rows_of(words, commands, name, made(folder, name, words.sizes))
     if words.check:
         return
-    page = results(rows, words.repeats, load, version_of_xmllint())
+    if words.instructions:
+        title, lines = "Instructions", counts_section(rows)
+        slow = list(steeper(rows, lambda row: row["counts"]["program"]))
+    else:
+        title, lines = "Times", times_section(rows, words.repeats, load)
+        slow = list(steeper(rows, lambda row: row["runs"]["program"].least))
     if words.results != "-":
-        Path(words.results).write_text(page + kept(Path(words.results)))
-    print(page)
-    slow = [line for line in linear_of(rows)[2:] if float(line.split("|")[4]) > LINEAR]
-    for line in slow:
-        print(f"bench: more than linear: {line}")
+        put_section(Path(words.results), title, lines)
+    print("\n".join(lines))
+    for name in slow:
+        print(f"bench: {name} is more than linear")
     sys.exit(1 if slow else 0)
 
 

@@ -4,6 +4,7 @@
 #![tactic(auto)]
 
 mod laws;
+mod owner;
 #[cfg(test)]
 mod tests;
 mod tree;

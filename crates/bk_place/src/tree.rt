@@ -13,6 +13,7 @@ ghost use Rattle.xt_tree.specs.Places.{tag_mark, marks_in, marks_of};
 ghost use Rattle.bk_place.specs.ValueParts.{has_no_cr};
 ghost use Rattle.bk_place.specs.Printing.{IsIndent, parent_of, head_lines, PrintsItem, PrintsItems, PrintsAttributes, attribute_at, AreTagsInPlace};
 
+use crate::owner::Owner;
 use crate::value::{put, put_quoted, put_text};
 use std::alloc::{AllocError, Global};
 use xt_lex::{AttrSrc, Span};
@@ -31,7 +32,7 @@ fn text_at(bytes: &[u8], span: Span) -> &[u8]
 fn put_element_line(
     out: &mut Vec<u8>,
     indent: &[u8],
-    file: &[u8],
+    file: &Owner<'_>,
     name: &[u8],
 ) -> Result<(), AllocError>
     ensures value { OnOk result ((head : Head) → head.space ≡ [] → head.local ≡ name.now → head.origin ≡ owned file.now → out.new.items ≡ out.old.items ++ page.element_line indent.now head) }
@@ -39,9 +40,7 @@ fn put_element_line(
     put(out, indent)?;
     put(out, b"element ")?;
     put(out, name)?;
-    put(out, b" in ")?;
-    put(out, file)?;
-    put(out, b"\n")
+    put(out, file.end())
 }
 
 /// At the top alone, since the base is the same in all of the file.
@@ -98,7 +97,7 @@ fn put_attributes(
 fn put_head(
     out: &mut Vec<u8>,
     indent: &[u8],
-    file: &[u8],
+    file: &Owner<'_>,
     uri: &[u8],
     bytes: &[u8],
     tag: &Tag,
@@ -114,7 +113,7 @@ fn put_head(
 fn put_text_line(
     out: &mut Vec<u8>,
     indent: &[u8],
-    file: &[u8],
+    file: &Owner<'_>,
     text: &[u8],
 ) -> Result<(), AllocError>
     requires no_cr { has_no_cr text.now ≡ true }
@@ -123,16 +122,14 @@ fn put_text_line(
     put(out, indent)?;
     put(out, b"text \"")?;
     put_text(out, text)?;
-    put(out, b"\" in ")?;
-    put(out, file)?;
-    put(out, b"\n")
+    put(out, file.text_end())
 }
 
 #[cycle(printing)]
 fn put_item(
     out: &mut Vec<u8>,
     indent: &mut Vec<u8>,
-    file: &[u8],
+    file: &Owner<'_>,
     uri: &[u8],
     bytes: &[u8],
     item: &Src,
@@ -157,7 +154,7 @@ fn put_item(
 fn put_kids(
     out: &mut Vec<u8>,
     indent: &mut Vec<u8>,
-    file: &[u8],
+    file: &Owner<'_>,
     uri: &[u8],
     bytes: &[u8],
     kids: &[Src],
@@ -178,7 +175,7 @@ fn put_kids(
 fn put_items(
     out: &mut Vec<u8>,
     indent: &mut Vec<u8>,
-    file: &[u8],
+    file: &Owner<'_>,
     uri: &[u8],
     bytes: &[u8],
     items: &[Src],
@@ -205,8 +202,9 @@ pub fn print(
     requires no_cr { has_no_cr bytes.now ≡ true }
     ensures value { IfOk result (λ text. AreTagsInPlace bytes.now (marks_of items.now) → (nodes : Nodes) → GivesNodes file.now uri.now (items_in bytes.now items.now) nodes → text.items ≡ print_tree nodes) }
 {
+    let owner = Owner::new(alloc, file)?;
     let mut out = Vec::new(alloc);
     let mut indent = Vec::new(alloc);
-    put_items(&mut out, &mut indent, file, uri, bytes, items)?;
+    put_items(&mut out, &mut indent, &owner, uri, bytes, items)?;
     Ok(out)
 }

@@ -27,6 +27,7 @@ use bk_run::{InputFault, Stop, read_input, tell_replies};
 use bk_script::{Command, read_script};
 use ed_session::{Session, StartFault, start};
 use std::alloc::Global;
+use std::mem;
 use std::sync::ledger::Ledger;
 use xt_lex::Steps;
 
@@ -74,7 +75,12 @@ fn run_book<D: Desk, L: Ledger>(
     ensures exact { IsTrue D.tells → (bytes : List ℕ) → IsScript bytes (map command_of commands.now) → TakesRunSteps (Some root.now) bytes (D.standing desk.old).files result steps.old steps.new }
 {
     match start(alloc, desk, root, steps) {
-        Ok(mut session) => run_session(alloc, &mut session, commands, desk, steps),
+        Ok(mut session) => {
+            let status = run_session(alloc, &mut session, commands, desk, steps);
+            // The process ends now. To take a tree of many items apart first is a fourteenth of its time.
+            mem::forget(session);
+            status
+        }
         Err(StartFault::Desk) => FAULT,
         Err(StartFault::Journal) => tell(desk, JOURNAL_LINE, 8),
         Err(StartFault::Missing) => tell_closed(alloc, b"fault Missing ", root, desk),
