@@ -1,6 +1,6 @@
 -- How an item of the code prints, and the rest of a list of them.
 use Rattle.std.proofs.Common.{◌≡◌, ◌∙◌, ℕ, suc, ◌<◌, ◌≤◌, ◌+◌, List, [], ◌∷◌, ◌++◌, map, drop, length, get_or, refl, sym, ap, subst, arith, Option, option_map, drop-cons}
-use Rattle.xt_spec.specs.Text.{HasTextValue}
+use Rattle.xt_spec.specs.PlainText.{HasTextValue}
 use Rattle.xt_spec.specs.Value.{HasAttributeValue}
 use Rattle.std.proofs.lemmas.Grind.{common_steps}
 use Rattle.xt_spec.specs.Tree.{Item, element_item, leaf_item, text_item, nil}

@@ -12,7 +12,7 @@ use Rattle.std.specs.Str.{NonePass, NoCharPasses}
 use Rattle.xt_spec.specs.Char.{is_char}
 use Rattle.xt_spec.specs.Name.{IsSpeltBy}
 use Rattle.xt_spec.specs.Tag.{is_value_char}
-use Rattle.xt_spec.specs.Text.{TextPart, data_part, reference_part, parts_text, parts_value, AreTextParts, HasTextValue, lines_read}
+use Rattle.xt_spec.specs.PlainText.{PlainPart, data_part, reference_part, parts_text, parts_value, ArePlainParts, HasTextValue, lines_read}
 use Rattle.xt_spec.specs.Value.{AreValueParts, value_of_parts, HasAttributeValue}
 use Rattle.xt_value.specs.Parts.{is_no_ampersand}
 use Rattle.xt_value.proofs.PartLemmas.{data_is_plain}
@@ -52,13 +52,13 @@ value_pass q (c ∷ cs) all =
 pub value_data_is_plain : (q : ℕ) (text : List ℕ) → IsSpeltBy (λ cs. list_all (is_value_char q) cs) text → list_all is_no_ampersand text ≡ true
 value_data_is_plain q text spelt = chars_plain text (spelt.0, spelt.1, value_pass q spelt.0 spelt.2)
 
-text_parts : (parts : List TextPart) → AreTextParts parts → AreParts parts
+text_parts : (parts : List PlainPart) → ArePlainParts parts → AreParts parts
 text_parts [] are = tt
 text_parts (data_part text ∷ parts) are =
     (data_is_plain text are.0, text_parts parts are.2)
 text_parts (reference_part text c ∷ parts) are = (are.0, text_parts parts are.1)
 
-value_parts : (q : ℕ) (parts : List TextPart) → AreValueParts q parts → AreParts parts
+value_parts : (q : ℕ) (parts : List PlainPart) → AreValueParts q parts → AreParts parts
 value_parts q [] are = tt
 value_parts q (data_part text ∷ parts) are =
     (value_data_is_plain q text are.0, value_parts q parts are.3)
@@ -71,7 +71,7 @@ counted_content (b ∷ bytes) = ap (λ (l : List ℕ). b ∷ l) (counted_content
 pub no_cr-append : (xs ys : List ℕ) → has_no_cr (xs ++ ys) ≡ true → (has_no_cr xs ≡ true) × (has_no_cr ys ≡ true)
 no_cr-append xs ys none = and_parts (has_no_cr xs) (has_no_cr ys) (sym (list_all-append (λ b. not (b == 0xD)) xs ys) ∙ none)
 
-text_same : (parts : List TextPart) → has_no_cr (parts_text parts) ≡ true → parts_value parts ≡ parts_counted Content parts
+text_same : (parts : List PlainPart) → has_no_cr (parts_text parts) ≡ true → parts_value parts ≡ parts_counted Content parts
 text_same [] none = refl
 text_same (data_part text ∷ parts) none =
     let both = no_cr-append text (parts_text parts) none in
@@ -80,7 +80,7 @@ text_same (reference_part text c ∷ parts) none =
     let both = no_cr-append text (parts_text parts) none in
     rw (text_same parts both.1) refl
 
-value_same : (parts : List TextPart) → has_no_cr (parts_text parts) ≡ true → value_of_parts parts ≡ parts_counted Value parts
+value_same : (parts : List PlainPart) → has_no_cr (parts_text parts) ≡ true → value_of_parts parts ≡ parts_counted Value parts
 value_same [] none = refl
 value_same (data_part text ∷ parts) none =
     let both = no_cr-append text (parts_text parts) none in

@@ -2,7 +2,7 @@
 use Rattle.std.proofs.Common.{◌≡◌, ◌∙◌, ℕ, List, [], ◌∷◌, ◌++◌, sym, ap, subst, append_assoc, Option, Some, None, codes}
 use Rattle.std.proofs.lemmas.List.{append-nil}
 use Rattle.xt_spec.specs.Tag.{Attribute}
-use Rattle.xt_spec.specs.Text.{HasTextValue}
+use Rattle.xt_spec.specs.PlainText.{HasTextValue}
 use Rattle.xt_spec.specs.Value.{HasAttributeValue}
 use Rattle.xt_spec.specs.Tree.{Items, Item, nil, element, leaf, text_item, before}
 use Rattle.bk_spec.specs.Node.{Origin, Attr, Head, Nodes, owned, element_node, text_node}

@@ -4,7 +4,7 @@ use Rattle.std.proofs.lemmas.Bool.{and_parts}
 use Rattle.std.proofs.lemmas.Bool.Decides.{nat_tests}
 use Rattle.std.specs.List.{list_all}
 use Rattle.xt_spec.specs.Reference.{StandsFor}
-use Rattle.xt_spec.specs.Text.{TextPart, data_part, reference_part, parts_text, parts_value, begins_with_data, AreTextParts, HasTextValue, lines_read_behind, lines_read}
+use Rattle.xt_spec.specs.PlainText.{PlainPart, data_part, reference_part, parts_text, parts_value, begins_with_data, ArePlainParts, HasTextValue, lines_read_behind, lines_read}
 use Rattle.xt_spec.specs.Value.{AreValueParts, value_of_parts, HasAttributeValue}
 use Rattle.xt_value.specs.Parts.{is_no_ampersand, is_no_semicolon}
 use Rattle.xt_value.proofs.PartLemmas.{wrapped, data_is_plain}
@@ -58,12 +58,12 @@ reference_begins text rest c stands =
     let (body, none, shape) = wrapped text c stands in
     ((body ++ 0x3B ∷ []) ++ rest, ap (λ (l : List ℕ). l ++ rest) shape)
 
-text_ends : (parts : List TextPart) → AreTextParts parts → begins_with_data parts ≡ false → (parts_text parts ≡ []) ⊎ ((bytes : List ℕ) × (parts_text parts ≡ 0x26 ∷ bytes))
+text_ends : (parts : List PlainPart) → ArePlainParts parts → begins_with_data parts ≡ false → (parts_text parts ≡ []) ⊎ ((bytes : List ℕ) × (parts_text parts ≡ 0x26 ∷ bytes))
 text_ends [] are apart = inl refl
 text_ends (data_part text ∷ parts) are apart = absurd (cc)
 text_ends (reference_part text c ∷ parts) are apart = inr (reference_begins text (parts_text parts) c are.0)
 
-value_ends : (q : ℕ) (parts : List TextPart) → AreValueParts q parts → begins_with_data parts ≡ false → (parts_text parts ≡ []) ⊎ ((bytes : List ℕ) × (parts_text parts ≡ 0x26 ∷ bytes))
+value_ends : (q : ℕ) (parts : List PlainPart) → AreValueParts q parts → begins_with_data parts ≡ false → (parts_text parts ≡ []) ⊎ ((bytes : List ℕ) × (parts_text parts ≡ 0x26 ∷ bytes))
 value_ends q [] are apart = inl refl
 value_ends q (data_part text ∷ parts) are apart = absurd (cc)
 value_ends q (reference_part text c ∷ parts) are apart = inr (reference_begins text (parts_text parts) c are.0)
@@ -72,7 +72,7 @@ counts_itself : (bytes : List ℕ) → map (counted Content) bytes ≡ bytes
 counts_itself [] = refl
 counts_itself (b ∷ bytes) = ap (λ (l : List ℕ). b ∷ l) (counts_itself bytes)
 
-text_parts_value : (parts : List TextPart) → AreTextParts parts → value_behind Content None false (parts_text parts) ≡ parts_value parts
+text_parts_value : (parts : List PlainPart) → ArePlainParts parts → value_behind Content None false (parts_text parts) ≡ parts_value parts
 text_parts_value [] are = refl
 text_parts_value (data_part text ∷ parts) are =
     data_computed Content false text (parts_text parts) (data_is_plain text are.0) (text_ends parts are.2 are.1)
@@ -81,7 +81,7 @@ text_parts_value (data_part text ∷ parts) are =
 text_parts_value (reference_part text c ∷ parts) are =
     reference_counts Content text (parts_text parts) c are.0 ∙ ap (λ (l : List ℕ). encode_utf8 c ++ l) (text_parts_value parts are.1)
 
-value_parts_value : (q : ℕ) (parts : List TextPart) → AreValueParts q parts → value_behind Value None false (parts_text parts) ≡ value_of_parts parts
+value_parts_value : (q : ℕ) (parts : List PlainPart) → AreValueParts q parts → value_behind Value None false (parts_text parts) ≡ value_of_parts parts
 value_parts_value q [] are = refl
 value_parts_value q (data_part text ∷ parts) are =
     data_computed Value false text (parts_text parts) (value_data_is_plain q text are.0) (value_ends q parts are.3 are.2)

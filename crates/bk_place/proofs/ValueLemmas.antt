@@ -7,7 +7,7 @@ use Rattle.std.proofs.lemmas.List.{append-nil, take_all, length-drop, drop-drop}
 use Rattle.std.proofs.lemmas.List.Folds.{flat_map-map}
 use Rattle.std.specs.List.{list_all, flat_map, prefix_len}
 use Rattle.xt_spec.specs.Reference.{StandsFor, is_decimal_digit, is_hexadecimal_digit}
-use Rattle.xt_spec.specs.Text.{TextPart, data_part, reference_part, parts_text}
+use Rattle.xt_spec.specs.PlainText.{PlainPart, data_part, reference_part, parts_text}
 use Rattle.bk_spec.specs.Print.{quoted_byte}
 use Rattle.xt_value.specs.Parts.{is_no_ampersand, is_no_semicolon}
 use Rattle.xt_value.proofs.PartLemmas.{wrapped}
@@ -97,7 +97,7 @@ pub value_front : (within : Within) (b : ℕ) (bytes value : List ℕ) → is_no
     → (others : List ℕ) × HasValue within bytes others × (value ≡ counted within b ∷ others)
 value_front within b bytes value plain (parts, are, spell, is) = front parts are spell is
   where
-    front : (parts : List TextPart) → AreParts parts → parts_text parts ≡ b ∷ bytes → value ≡ parts_counted within parts → (others : List ℕ) × HasValue within bytes others × (value ≡ counted within b ∷ others)
+    front : (parts : List PlainPart) → AreParts parts → parts_text parts ≡ b ∷ bytes → value ≡ parts_counted within parts → (others : List ℕ) × HasValue within bytes others × (value ≡ counted within b ∷ others)
     front [] are spell is = absurd (cc)
     front (data_part [] ∷ parts) are spell is = front parts are.1 spell is
     front (data_part (c ∷ text) ∷ parts) are spell is =
@@ -135,7 +135,7 @@ pub record BeginsReference (within : Within) (text value : List ℕ) : Type 0 wh
 pub value_reference : (within : Within) (bytes value : List ℕ) → HasValue within (0x26 ∷ bytes) value → BeginsReference within (0x26 ∷ bytes) value
 value_reference within bytes value (parts, are, spell, is) = begins parts are spell is
   where
-    begins : (parts : List TextPart) → AreParts parts → parts_text parts ≡ 0x26 ∷ bytes → value ≡ parts_counted within parts → BeginsReference within (0x26 ∷ bytes) value
+    begins : (parts : List PlainPart) → AreParts parts → parts_text parts ≡ 0x26 ∷ bytes → value ≡ parts_counted within parts → BeginsReference within (0x26 ∷ bytes) value
     begins [] are spell is = absurd (cc)
     begins (data_part [] ∷ parts) are spell is = begins parts are.1 spell is
     begins (data_part (c ∷ text) ∷ parts) are spell is =
@@ -160,7 +160,7 @@ value_reference within bytes value (parts, are, spell, is) = begins parts are sp
 pub value_end : (within : Within) (value : List ℕ) → HasValue within [] value → value ≡ []
 value_end within value (parts, are, spell, is) = is ∙ nothing parts are spell
   where
-    nothing : (parts : List TextPart) → AreParts parts → parts_text parts ≡ [] → parts_counted within parts ≡ []
+    nothing : (parts : List PlainPart) → AreParts parts → parts_text parts ≡ [] → parts_counted within parts ≡ []
     nothing [] are spell = refl
     nothing (data_part [] ∷ parts) are spell = nothing parts are.1 spell
     nothing (data_part (c ∷ text) ∷ parts) are spell = absurd (cc)

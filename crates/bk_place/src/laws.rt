@@ -1,6 +1,6 @@
 //! Laws of values and nodes. Each call does nothing: what it says is its clause.
 ghost use Rattle.std.specs.Prelude.{◌≡◌, List, ℕ};
-ghost use Rattle.xt_spec.specs.Text.{HasTextValue};
+ghost use Rattle.xt_spec.specs.PlainText.{HasTextValue};
 ghost use Rattle.xt_spec.specs.Value.{HasAttributeValue};
 ghost use Rattle.xt_spec.specs.Tree.{Items as TreeItems};
 ghost use Rattle.xt_spec.specs.Plain.{IsPlainDocument};

@@ -7,7 +7,7 @@ use std::marker::Brand;
 use std::sync::ledger::{Blank, Ledger};
 use std::test::Fail;
 use xt_lex::Steps;
-use xt_read::read_document;
+use xt_read::read_plain;
 
 fn printed_over<L: Ledger>(alloc: Global, document: &[u8], blank: Blank) -> Result<Vec<u8>, Fail>
     requires fits { length document.now < 2 ^ 32 }
@@ -16,7 +16,7 @@ fn printed_over<L: Ledger>(alloc: Global, document: &[u8], blank: Blank) -> Resu
     requires some { L.parts ≡ 1 }
 {
     let mut steps = Steps::<L>::new(blank);
-    match read_document(alloc, document, &mut steps) {
+    match read_plain(alloc, document, &mut steps) {
         Ok(items) => Ok(print(alloc, b"f", b"u:f", document, items.as_slice())?),
         Err(_) => Ok(Vec::new(alloc)),
     }

@@ -5,7 +5,7 @@ ghost use Rattle.bk_spec.specs.Node.{Nodes, Head, Attr};
 ghost use Rattle.bk_spec.specs.PlainNodes.{plain_attr, GivesAttributes, GivesHead, GivesNodes};
 ghost use Rattle.bk_spec.specs.Print.{deeper, attribute_line, attribute_lines, print_tree};
 ghost use Rattle.xt_spec.specs.Value.{HasAttributeValue};
-ghost use Rattle.xt_spec.specs.Text.{HasTextValue};
+ghost use Rattle.xt_spec.specs.PlainText.{HasTextValue};
 ghost use Rattle.bk_spec.specs.Node.{owned};
 ghost use Rattle.bk_spec.specs.Print as page;
 ghost use Rattle.xt_tree.specs.Meaning.{at_span, item_of, items_in};

@@ -3,7 +3,7 @@ ghost use Rattle.std.specs.Prelude.{◌≡◌, ◌≢◌, ◌<◌, ◌≤◌, Li
 ghost use Rattle.std.specs.List.{list_all, flat_map, prefix_len, position_or_len};
 ghost use Rattle.xt_spec.specs.Reference.{StandsFor};
 ghost use Rattle.xt_spec.specs.Value.{HasAttributeValue};
-ghost use Rattle.xt_spec.specs.Text.{HasTextValue};
+ghost use Rattle.xt_spec.specs.PlainText.{HasTextValue};
 ghost use Rattle.memchr.specs.Find.{is_byte};
 ghost use Rattle.xt_value.specs.Parts.{is_no_ampersand, is_no_semicolon};
 ghost use Rattle.bk_place.specs.ValueParts.{counted, has_no_cr, HasValue};

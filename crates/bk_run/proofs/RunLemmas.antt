@@ -7,12 +7,12 @@ use Rattle.xt_spec.specs.Char.{is_char}
 use Rattle.xt_spec.specs.Tree.{Items, nil, element, leaf, Item, element_item, leaf_item, text_item, reference_item, comment_item, pi_item, gap, source_text, close_text}
 use Rattle.xt_spec.specs.Plain.{IsPlainDocument}
 use Rattle.xt_tree.specs.Spans.{Stands}
-use Rattle.ed_spec.specs.Paths.{item_in, item_at, replaced_in}
+use Rattle.xt_spec.specs.Paths.{item_in, item_at, replaced_in}
 use Rattle.ed_spec.specs.TextEdit.{text_written, text_edited}
 use Rattle.ed_spec.specs.Book.{Book, with_file, Opens}
 use Rattle.ed_spec.specs.Edit.{Edit, IsTextItemOf, range_replaced, Accepts, accepted}
 use Rattle.ed_spec.specs.Session.{Session, opened, Command, edit, undo, redo, burst, Reply, done, refused, nothing_to_undo, nothing_to_redo, saved_files, AreDifferences, after_edit, after_undo, after_redo, after_burst, Step, Does, accepts, refuses, undoes, undoes_nothing, redoes, redoes_nothing, saves, DoesAll, nothing, then}
-use Rattle.ed_spec.proofs.PathLemmas.{source_text-append}
+use Rattle.xt_spec.proofs.PathLemmas.{source_text-append}
 use Rattle.ed_text.proofs.Theorems.{still_plain}
 use Rattle.ed_laws.specs.Outcome as outcome
 use Rattle.ed_laws.specs.Outcome.{Outcome, HasOutcome}

@@ -1,5 +1,6 @@
--- The nodes of a book, after XML Information Set, sections 2.2 to 2.6, with the file that owns each. Texts are values:
--- references are replaced, line ends are LF, attribute values are normalized.
+-- The nodes of a book, after XML Information Set, sections 2.2 (elements), 2.3 (attributes), 2.4 (processing instructions),
+-- 2.6 (characters) and 2.7 (comments), with the file that owns each. Texts are values: references are replaced, line ends
+-- are LF, attribute values are normalized.
 --
 --   Origin  what a node came from: a file, or an internal entity referenced in a file
 --   How     how an attribute came

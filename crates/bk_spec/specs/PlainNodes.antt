@@ -7,7 +7,7 @@ use Rattle.std.specs.Prelude.{◌≡◌, List, ℕ, [], ◌∷◌, Option}
 use Rattle.xt_spec.specs.Tag.{Attribute, Tag, IsTag, tag_text}
 use Rattle.xt_spec.specs.Tree.{Items, nil, element, leaf, text_item, reference_item, comment_item, pi_item, gap}
 use Rattle.xt_spec.specs.Reading.{tag_ending}
-use Rattle.xt_spec.specs.Text.{HasTextValue}
+use Rattle.xt_spec.specs.PlainText.{HasTextValue}
 use Rattle.xt_spec.specs.Value.{HasAttributeValue}
 use Rattle.bk_spec.specs.Node.{owned, written, Attr, Head, Nodes, no_nodes, element_node, text_node}
 

@@ -1,7 +1,7 @@
 -- Edits of a small tree and their outcomes.
 use Rattle.std.proofs.Common.{ℕ, List, [], ◌∷◌, refl, arith, inr, codes, Some, encode_utf8_all}
 use Rattle.xt_spec.specs.Tree.{Items, nil, element, leaf, text_item, leaf_item, element_item}
-use Rattle.xt_spec.specs.Text.{HasTextValue}
+use Rattle.xt_spec.specs.PlainText.{HasTextValue}
 use Rattle.ed_spec.specs.Edit.{text_edit, no_such_place, wrong_kind, bad_range, no_node, no_text, no_range, accepted}
 use Rattle.ed_laws.specs.Outcome.{refused, gives, HasOutcome}
 use Rattle.xt_escape.proofs.Theorems.{escape_has_value}

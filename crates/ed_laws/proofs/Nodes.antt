@@ -4,10 +4,10 @@ use Rattle.std.specs.List.{list_all}
 use Rattle.std.proofs.lemmas.Str.{length-le-encodes}
 use Rattle.xt_spec.specs.Char.{is_char}
 use Rattle.xt_spec.specs.Tree.{Items, nil, element, leaf, Item, element_item, leaf_item, text_item, reference_item, comment_item, pi_item, gap, append}
-use Rattle.xt_spec.specs.Text.{HasTextValue}
+use Rattle.xt_spec.specs.PlainText.{HasTextValue}
 use Rattle.bk_spec.specs.Node.{Origin, owned, Nodes, text_node}
 use Rattle.bk_spec.specs.PlainNodes.{GivesNodes}
-use Rattle.ed_spec.specs.Paths.{item_in, item_at, replaced_in}
+use Rattle.xt_spec.specs.Paths.{item_in, item_at, replaced_in}
 use Rattle.ed_spec.specs.TextEdit.{text_written, text_edited}
 use Rattle.ed_spec.specs.Place.{index_of, content_of, path_along, path_of, text_or_none, text_set_in, text_set}
 use Rattle.ed_spec.specs.Edit.{IsTextItemOf, IsInText, range_replaced, edited}

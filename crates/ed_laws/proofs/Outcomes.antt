@@ -7,7 +7,7 @@ use Rattle.std.specs.Cmp.Lexicographic.{pointwise, bytes_decides}
 use Rattle.xt_spec.specs.Char.{is_char}
 use Rattle.xt_spec.specs.Tree.{Items, Item, element_item, leaf_item, text_item, reference_item, comment_item, pi_item, gap, source_text}
 use Rattle.xt_spec.specs.Plain.{IsPlainDocument}
-use Rattle.ed_spec.specs.Paths.{item_at}
+use Rattle.xt_spec.specs.Paths.{item_at}
 use Rattle.ed_spec.specs.Place.{path_of}
 use Rattle.ed_spec.specs.Book.{Book}
 use Rattle.ed_spec.specs.Edit.{Edit, text_edit, Refusal, no_such_place, wrong_kind, bad_range, bad_text, too_large, IsTextItemOf, is_text, IsAt, IsInText, edited, Refuses, no_node, no_text, no_range, no_char, no_room, Accepts, accepted, AcceptsIn}
@@ -220,7 +220,7 @@ has_an_outcome bytes items (text_edit place from to new) plain = by (path_of ite
         at_item (leaf_item pi_item text) at = (refused wrong_kind, no_text place from to new path (leaf_item pi_item text) at refl)
         at_item (leaf_item gap text) at = (refused wrong_kind, no_text place from to new path (leaf_item gap text) at refl)
         at_item (leaf_item text_item text) at =
-            let (characters, has) = has_chars text (text_at false items path text at.there plain.reading.ordered) in
+            let (characters, has) = has_chars text (text_at items path text at.there plain.plain) in
             text_outcome items place from to new path (leaf_item text_item text) characters at has
 
 -- ---- the book

@@ -1,9 +1,9 @@
--- A place leads to an item, one number after the other; and the item at a path of a document that is a text is a text item.
-use Rattle.std.proofs.Common.{◌≡◌, ◌∙◌, ℕ, zero, suc, ◌-◌, List, [], ◌∷◌, refl, sym, ap, subst, arith, Option, Some, None, option_map, Bool, true}
+-- A place leads to an item, one number after the other; and a text at a path of plain items holds no CDATA section.
+use Rattle.std.proofs.Common.{◌≡◌, ◌∙◌, ℕ, zero, suc, ◌-◌, List, [], ◌∷◌, refl, sym, ap, subst, arith, Option, Some, None, option_map}
 use Rattle.xt_spec.specs.Tree.{Items, nil, element, leaf, Item, element_item, leaf_item, text_item, reference_item, comment_item, pi_item, gap}
-use Rattle.xt_spec.specs.Text.{IsTextItem}
-use Rattle.xt_spec.specs.Reading.{IsContent, IsTop}
-use Rattle.ed_spec.specs.Paths.{item_in, item_at}
+use Rattle.xt_spec.specs.PlainText.{IsPlainText}
+use Rattle.xt_spec.specs.Plain.{IsPlainItems}
+use Rattle.xt_spec.specs.Paths.{item_in, item_at}
 use Rattle.ed_spec.specs.Place.{index_of, content_of, step_along, path_along, path_of}
 
 -- ---- indices and paths, found or not
@@ -80,36 +80,23 @@ place_leads items (number ∷ place) (index ∷ path) is =
     let step = one_step (index_of items number) (λ i. path_along (content_of items i) place) index path is in
     leads_in items number place index path step.0 step.1
 
--- ---- a text that stands in a document is a text item
+-- ---- a text that stands in plain items is a text item without CDATA sections
 
-content_text : (level : ℕ) (items : Items) (index : ℕ) (path text : List ℕ) → item_in items index path ≡ Some (leaf_item text_item text) → IsContent level items → IsTextItem text
-content_text level nil index path text is content = absurd (cc)
-content_text level (element open_tag kids close rest) zero [] text is content = absurd (cc)
-content_text level (element open_tag kids close rest) zero (next ∷ path) text is content = content_text (suc level) kids next path text is content.1
-content_text level (element open_tag kids close rest) (suc index) path text is content = content_text level rest index path text is content.2
-content_text level (leaf text_item other rest) zero [] text is content = let same : other ≡ text = cc in subst IsTextItem same content.0
-content_text level (leaf text_item other rest) zero (next ∷ path) text is content = absurd (cc)
-content_text level (leaf text_item other rest) (suc index) path text is content = content_text level rest index path text is content.2
-content_text level (leaf reference_item other rest) zero [] text is content = absurd (cc)
-content_text level (leaf reference_item other rest) zero (next ∷ path) text is content = absurd (cc)
-content_text level (leaf reference_item other rest) (suc index) path text is content = content_text level rest index path text is content.2
-content_text level (leaf comment_item other rest) index path text is content = absurd content
-content_text level (leaf pi_item other rest) index path text is content = absurd content
-content_text level (leaf gap other rest) index path text is content = absurd content
+text_in : (items : Items) (index : ℕ) (path text : List ℕ) → item_in items index path ≡ Some (leaf_item text_item text) → IsPlainItems items → IsPlainText text
+text_in nil index path text is plain = absurd (cc)
+text_in (element open_tag kids close rest) zero [] text is plain = absurd (cc)
+text_in (element open_tag kids close rest) zero (next ∷ path) text is plain = text_in kids next path text is plain.1
+text_in (element open_tag kids close rest) (suc index) path text is plain = text_in rest index path text is plain.2
+text_in (leaf text_item other rest) zero [] text is plain = let same : other ≡ text = cc in subst IsPlainText same plain.0
+text_in (leaf text_item other rest) zero (next ∷ path) text is plain = absurd (cc)
+text_in (leaf text_item other rest) (suc index) path text is plain = text_in rest index path text is plain.1
+text_in (leaf gap other rest) zero [] text is plain = absurd (cc)
+text_in (leaf gap other rest) zero (next ∷ path) text is plain = absurd (cc)
+text_in (leaf gap other rest) (suc index) path text is plain = text_in rest index path text is plain.1
+text_in (leaf reference_item other rest) index path text is plain = absurd plain
+text_in (leaf comment_item other rest) index path text is plain = absurd plain
+text_in (leaf pi_item other rest) index path text is plain = absurd plain
 
-top_text : (came : Bool) (items : Items) (index : ℕ) (path text : List ℕ) → item_in items index path ≡ Some (leaf_item text_item text) → IsTop came items → IsTextItem text
-top_text came nil index path text is top = absurd (cc)
-top_text came (element open_tag kids close rest) zero [] text is top = absurd (cc)
-top_text came (element open_tag kids close rest) zero (next ∷ path) text is top = content_text 1 kids next path text is top.2
-top_text came (element open_tag kids close rest) (suc index) path text is top = top_text true rest index path text is top.3
-top_text came (leaf gap other rest) zero [] text is top = absurd (cc)
-top_text came (leaf gap other rest) zero (next ∷ path) text is top = absurd (cc)
-top_text came (leaf gap other rest) (suc index) path text is top = top_text came rest index path text is top.2
-top_text came (leaf text_item other rest) index path text is top = absurd top
-top_text came (leaf reference_item other rest) index path text is top = absurd top
-top_text came (leaf comment_item other rest) index path text is top = absurd top
-top_text came (leaf pi_item other rest) index path text is top = absurd top
-
-pub text_at : (came : Bool) (items : Items) (path text : List ℕ) → item_at items path ≡ Some (leaf_item text_item text) → IsTop came items → IsTextItem text
-text_at came items [] text is top = absurd (cc)
-text_at came items (index ∷ path) text is top = top_text came items index path text is top
+pub text_at : (items : Items) (path text : List ℕ) → item_at items path ≡ Some (leaf_item text_item text) → IsPlainItems items → IsPlainText text
+text_at items [] text is plain = absurd (cc)
+text_at items (index ∷ path) text is plain = text_in items index path text is plain

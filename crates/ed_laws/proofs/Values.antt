@@ -11,7 +11,7 @@ use Rattle.std.specs.List.{list_all, AllByRecursion}
 use Rattle.xt_spec.specs.Char.{is_char}
 use Rattle.xt_spec.specs.Reference.{StandsFor}
 use Rattle.xt_spec.specs.Token.{TokenKind, char_data, char_ref, entity_ref, IsPlain, IsLongestFront}
-use Rattle.xt_spec.specs.Text.{TextPart, data_part, reference_part, part_text, parts_text, parts_value, begins_with_data, AreTextParts, IsTextItem, HasTextValue, lines_read, lines_read_behind}
+use Rattle.xt_spec.specs.PlainText.{PlainPart, data_part, reference_part, part_text, parts_text, parts_value, begins_with_data, ArePlainParts, IsPlainText, HasTextValue, lines_read, lines_read_behind}
 use Rattle.xt_lex.specs.Place.{Follows}
 use Rattle.xt_lex.proofs.Fronts.{delimited_begins}
 use Rattle.xt_lex.proofs.Theorems.{front_some, token_longest, stands_unique, stands_spells}
@@ -115,7 +115,7 @@ all_cut n xs are =
     and_parts (list_all is_char (take n xs)) (list_all is_char (drop n xs)) (sym (list_all-append is_char (take n xs) (drop n xs)) ∙ ap (λ (l : List ℕ). list_all is_char l) (take-append-drop n xs) ∙ are)
 
 -- the value of the parts is spelled by Chars
-parts_chars : (parts : List TextPart) → AreTextParts parts → (cs : List ℕ) × (list_all is_char cs ≡ true) × (encode_utf8_all cs ≡ parts_value parts)
+parts_chars : (parts : List PlainPart) → ArePlainParts parts → (cs : List ℕ) × (list_all is_char cs ≡ true) × (encode_utf8_all cs ≡ parts_value parts)
 parts_chars [] are = ([], refl, refl)
 parts_chars (data_part text ∷ parts) are =
     let rest = parts_chars parts are.2 in
@@ -135,13 +135,13 @@ value_chars text characters (parts, are, spell, is) =
     subst (λ (l : List ℕ). list_all is_char l ≡ true) (encodes_same found.0 characters (found.2 ∙ is)) found.1
 
 -- a text item has a value
-pub has_chars : (text : List ℕ) → IsTextItem text → (characters : List ℕ) × HasTextValue text (encode_utf8_all characters)
+pub has_chars : (text : List ℕ) → IsPlainText text → (characters : List ℕ) × HasTextValue text (encode_utf8_all characters)
 has_chars text (parts, are, some, spell) = let found = parts_chars parts are in (found.0, (parts, are, spell, sym found.2))
 
 -- ---- one value
 
 -- the token that a part is
-abbrev MayBe : TextPart → TokenKind → Type 0
+abbrev MayBe : PlainPart → TokenKind → Type 0
 MayBe (data_part text) kind = kind ≡ char_data
 MayBe (reference_part text c) kind = (kind ≡ char_ref) ⊎ (kind ≡ entity_ref)
 
@@ -154,12 +154,12 @@ reference_follows text rest c stands = elim (stands_spells text c stands) [
     begins : (b : ℕ) (more : List ℕ) → text ≡ b ∷ more → (b ≡ 0x3C) ⊎ (b ≡ 0x26) → Follows (text ++ rest)
     begins b more is ends = rw is ends
 
-parts_follow : (parts : List TextPart) → AreTextParts parts → begins_with_data parts ≡ false → Follows (parts_text parts)
+parts_follow : (parts : List PlainPart) → ArePlainParts parts → begins_with_data parts ≡ false → Follows (parts_text parts)
 parts_follow [] are apart = tt
 parts_follow (data_part text ∷ parts) are apart = absurd (cc)
 parts_follow (reference_part text c ∷ parts) are apart = reference_follows text (parts_text parts) c are.0
 
-front_token : (part : TextPart) (parts : List TextPart) → AreTextParts (part ∷ parts)
+front_token : (part : PlainPart) (parts : List PlainPart) → ArePlainParts (part ∷ parts)
     → (kind : TokenKind) × MayBe part kind × IsLongestFront (part_text part ++ parts_text parts) kind (length (part_text part))
 front_token (data_part text) parts are = (char_data, refl, token_longest char_data text (parts_text parts) are.0 (λ _. parts_follow parts are.2 are.1))
 front_token (reference_part text c) parts are = elim (stands_spells text c are.0) [
@@ -177,7 +177,7 @@ fronts_same t r u s k l a b same =
     let text : t ≡ u = sym (take_at t r (length t) refl) ∙ ap (λ (x : List ℕ). take (length t) x) same ∙ take_at u s (length t) (sym size) in
     (two.0, text, append_cancel_left t r s (same ∙ ap (λ (x : List ℕ). x ++ s) (sym text)))
 
-no_part : (part : TextPart) (parts : List TextPart) → AreTextParts (part ∷ parts) → [] ≡ part_text part ++ parts_text parts → ⊥
+no_part : (part : PlainPart) (parts : List PlainPart) → ArePlainParts (part ∷ parts) → [] ≡ part_text part ++ parts_text parts → ⊥
 no_part part parts are same =
     let front = front_token part parts are in
     let some = front_some (part_text part ++ parts_text parts) front.0 (length (part_text part)) front.2.front in
@@ -189,7 +189,7 @@ apart kind is (inl other) = absurd (cc)
 apart kind is (inr other) = absurd (cc)
 
 -- a text is spelled by parts in one way
-parts_same : (a b : List TextPart) → AreTextParts a → AreTextParts b → parts_text a ≡ parts_text b → a ≡ b
+parts_same : (a b : List PlainPart) → ArePlainParts a → ArePlainParts b → parts_text a ≡ parts_text b → a ≡ b
 parts_same [] [] x y same = refl
 parts_same [] (part ∷ parts) x y same = absurd (no_part part parts y same)
 parts_same (part ∷ parts) [] x y same = absurd (no_part part parts x (sym same))
@@ -197,7 +197,7 @@ parts_same (data_part t ∷ a) (data_part u ∷ b) x y same =
     let left = front_token (data_part t) a x in
     let right = front_token (data_part u) b y in
     let fronts = fronts_same t (parts_text a) u (parts_text b) left.0 right.0 left.2 right.2 same in
-    ap₂ (λ (v : List ℕ) (ps : List TextPart). data_part v ∷ ps) fronts.1 (parts_same a b x.2 y.2 fronts.2)
+    ap₂ (λ (v : List ℕ) (ps : List PlainPart). data_part v ∷ ps) fronts.1 (parts_same a b x.2 y.2 fronts.2)
 parts_same (data_part t ∷ a) (reference_part u d ∷ b) x y same =
     let left = front_token (data_part t) a x in
     let right = front_token (reference_part u d) b y in
@@ -213,7 +213,7 @@ parts_same (reference_part t c ∷ a) (reference_part u d ∷ b) x y same =
     let right = front_token (reference_part u d) b y in
     let fronts = fronts_same t (parts_text a) u (parts_text b) left.0 right.0 left.2 right.2 same in
     let char : c ≡ d = stands_unique u c d (subst (λ (v : List ℕ). StandsFor v c) fronts.1 x.0) y.0 in
-    ap₂ (λ (v : List ℕ) (ps : List TextPart). reference_part v c ∷ ps) fronts.1 (parts_same a b x.1 y.1 fronts.2) ∙ ap (λ n. reference_part u n ∷ b) char
+    ap₂ (λ (v : List ℕ) (ps : List PlainPart). reference_part v c ∷ ps) fronts.1 (parts_same a b x.1 y.1 fronts.2) ∙ ap (λ n. reference_part u n ∷ b) char
 
 -- a text item has one value
 pub one_value : (text a b : List ℕ) → HasTextValue text a → HasTextValue text b → a ≡ b

@@ -1,12 +1,15 @@
 -- From the parts of an edit to its outcome.
-use Rattle.std.proofs.Common.{◌≡◌, ◌∙◌, ℕ, suc, ◌<◌, ◌≤◌, ◌+◌, ◌*◌, List, take, drop, ◌++◌, length, sym, ap, subst, arith, true, false, Bool, Some, encode_utf8_all}
+use Rattle.std.proofs.Common.{◌≡◌, ◌∙◌, inl, inr, ℕ, suc, ◌<◌, ◌≤◌, ◌+◌, ◌*◌, List, take, drop, ◌++◌, length, sym, ap, subst, arith, true, false, Some, encode_utf8_all}
 use Rattle.std.specs.List.{list_all}
 use Rattle.xt_spec.specs.Char.{is_char}
-use Rattle.xt_spec.specs.Tree.{Item, element_item, leaf_item, text_item, reference_item, comment_item, pi_item, gap, Items, nil, element, leaf, begins_with, source_text}
-use Rattle.xt_spec.specs.Text.{IsTextItem, HasTextValue}
-use Rattle.xt_spec.specs.Reading.{IsContent, IsTop}
+use Rattle.xt_spec.specs.Tree.{Item, element_item, leaf_item, text_item, reference_item, comment_item, pi_item, gap, Items, nil, element, leaf, source_text}
+use Rattle.xt_spec.specs.PlainText.{IsPlainText, HasTextValue}
+use Rattle.xt_spec.specs.Reading.{IsContent, Stage, before_doctype, behind_root, begins_with_space, Leads}
+use Rattle.xt_spec.specs.Tag.{IsBlank}
+use Rattle.xt_spec.specs.Doctype.{IsDoctype}
+use Rattle.xt_read.proofs.Theorems.{reading_body, doctype_no_blank}
 use Rattle.xt_spec.specs.Plain.{IsPlainItems, node_count, IsPlainDocument}
-use Rattle.ed_spec.specs.Paths.{item_at}
+use Rattle.xt_spec.specs.Paths.{item_at}
 use Rattle.ed_spec.specs.TextEdit.{text_edited}
 use Rattle.ed_spec.specs.Edit as spec
 use Rattle.ed_spec.specs.Edit.{Edit, text_edit, IsAt, IsInText, range_replaced, edited, Refuses, no_node, no_text, no_range, no_char, no_room, Accepts, accepted}
@@ -25,10 +28,10 @@ use Rattle.ed_session.specs.Kept.{Kept}
 content_count : (level : ℕ) (items : Items) → IsContent level items → IsPlainItems items → item_count items ≤ node_count items
 content_count level nil is plain = omega arith
 content_count level (element open_tag kids close rest) is plain = let less = content_count level rest is.2 plain.2 in omega arith
-content_count level (leaf text_item text rest) is plain = let less = content_count level rest is.2 plain in omega arith
+content_count level (leaf text_item text rest) is plain = let less = content_count level rest is.2 plain.1 in omega arith
 content_count level (leaf reference_item text rest) is plain = absurd plain
-content_count level (leaf comment_item text rest) is plain = absurd is
-content_count level (leaf pi_item text rest) is plain = absurd is
+content_count level (leaf comment_item text rest) is plain = absurd plain
+content_count level (leaf pi_item text rest) is plain = absurd plain
 content_count level (leaf gap text rest) is plain = absurd is
 
 content_narrow : (most level : ℕ) (items : Items) → IsContent level items → IsPlainItems items → node_count items ≤ most → AreNarrowWithin most items
@@ -36,22 +39,27 @@ content_narrow most level nil is plain few = tt
 content_narrow most level (element open_tag kids close rest) is plain few =
     let less = content_count (suc level) kids is.1 plain.1 in
     (omega arith, content_narrow most (suc level) kids is.1 plain.1 (omega arith), content_narrow most level rest is.2 plain.2 (omega arith))
-content_narrow most level (leaf text_item text rest) is plain few = content_narrow most level rest is.2 plain (omega arith)
+content_narrow most level (leaf text_item text rest) is plain few = content_narrow most level rest is.2 plain.1 (omega arith)
 content_narrow most level (leaf reference_item text rest) is plain few = absurd plain
-content_narrow most level (leaf comment_item text rest) is plain few = absurd is
-content_narrow most level (leaf pi_item text rest) is plain few = absurd is
+content_narrow most level (leaf comment_item text rest) is plain few = absurd plain
+content_narrow most level (leaf pi_item text rest) is plain few = absurd plain
 content_narrow most level (leaf gap text rest) is plain few = absurd is
 
-top_narrow : (most : ℕ) (came : Bool) (items : Items) → IsTop came items → IsPlainItems items → node_count items ≤ most → AreNarrowWithin most items
-top_narrow most came nil is plain few = tt
-top_narrow most came (element open_tag kids close rest) is plain few =
+-- the gap of a plain document is white space, and no DOCTYPE
+no_doctype : (text : List ℕ) → IsBlank text → IsDoctype text → ⊥
+no_doctype text blank is = let h : true ≡ false = sym blank ∙ doctype_no_blank text is in absurd (cc)
+
+top_narrow : (most : ℕ) (stage last : Stage) (items : Items) → Leads stage items last → IsPlainItems items → node_count items ≤ most → AreNarrowWithin most items
+top_narrow most stage last nil is plain few = tt
+top_narrow most stage last (element open_tag kids close rest) is plain few =
     let less = content_count 1 kids is.2 plain.1 in
-    (omega arith, content_narrow most 1 kids is.2 plain.1 (omega arith), top_narrow most true rest is.3 plain.2 (omega arith))
-top_narrow most came (leaf gap text rest) is plain few = top_narrow most came rest is.2 plain few
-top_narrow most came (leaf text_item text rest) is plain few = absurd is
-top_narrow most came (leaf reference_item text rest) is plain few = absurd is
-top_narrow most came (leaf comment_item text rest) is plain few = absurd is
-top_narrow most came (leaf pi_item text rest) is plain few = absurd is
+    (omega arith, content_narrow most 1 kids is.2 plain.1 (omega arith), top_narrow most behind_root last rest is.3 plain.2 (omega arith))
+top_narrow most stage last (leaf gap text rest) (inl (first, is, leads)) plain few = absurd (no_doctype text plain.0 is)
+top_narrow most stage last (leaf gap text rest) (inr (space, apart, leads)) plain few = top_narrow most stage last rest leads plain.1 few
+top_narrow most stage last (leaf text_item text rest) is plain few = absurd is
+top_narrow most stage last (leaf reference_item text rest) is plain few = absurd is
+top_narrow most stage last (leaf comment_item text rest) is plain few = absurd plain
+top_narrow most stage last (leaf pi_item text rest) is plain few = absurd plain
 
 narrow_more : (less more : ℕ) (items : Items) → less ≤ more → AreNarrowWithin less items → AreNarrowWithin more items
 narrow_more less more nil le are = tt
@@ -60,29 +68,31 @@ narrow_more less more (element open_tag kids close rest) le are = (omega (arith,
 
 -- behind white space at the top stands an element or nothing, so the items are at most twice the nodes and one more
 mutual
-  top_count : (came : Bool) (items : Items) → IsTop came items → item_count items ≤ 2 * node_count items + 1
-  top_count came nil is = omega arith
-  top_count came (element open_tag kids close rest) is = let less = top_count true rest is.3 in omega arith
-  top_count came (leaf gap text rest) is = let less = top_count_apart came rest is.2 is.1 in omega arith
-  top_count came (leaf text_item text rest) is = absurd is
-  top_count came (leaf reference_item text rest) is = absurd is
-  top_count came (leaf comment_item text rest) is = absurd is
-  top_count came (leaf pi_item text rest) is = absurd is
+  top_count : (stage last : Stage) (items : Items) → Leads stage items last → IsPlainItems items → item_count items ≤ 2 * node_count items + 1
+  top_count stage last nil is plain = omega arith
+  top_count stage last (element open_tag kids close rest) is plain = let less = top_count behind_root last rest is.3 plain.2 in omega arith
+  top_count stage last (leaf gap text rest) (inl (first, is, leads)) plain = absurd (no_doctype text plain.0 is)
+  top_count stage last (leaf gap text rest) (inr (space, apart, leads)) plain = let less = top_count_apart stage last rest leads plain.1 apart in omega arith
+  top_count stage last (leaf text_item text rest) is plain = absurd is
+  top_count stage last (leaf reference_item text rest) is plain = absurd is
+  top_count stage last (leaf comment_item text rest) is plain = absurd plain
+  top_count stage last (leaf pi_item text rest) is plain = absurd plain
 
-  top_count_apart : (came : Bool) (items : Items) → IsTop came items → begins_with gap items ≡ false → item_count items ≤ 2 * node_count items
-  top_count_apart came nil is apart = omega arith
-  top_count_apart came (element open_tag kids close rest) is apart = let less = top_count true rest is.3 in omega arith
-  top_count_apart came (leaf gap text rest) is apart = absurd (cc)
-  top_count_apart came (leaf text_item text rest) is apart = absurd is
-  top_count_apart came (leaf reference_item text rest) is apart = absurd is
-  top_count_apart came (leaf comment_item text rest) is apart = absurd is
-  top_count_apart came (leaf pi_item text rest) is apart = absurd is
+  top_count_apart : (stage last : Stage) (items : Items) → Leads stage items last → IsPlainItems items → begins_with_space items ≡ false → item_count items ≤ 2 * node_count items
+  top_count_apart stage last nil is plain apart = omega arith
+  top_count_apart stage last (element open_tag kids close rest) is plain apart = let less = top_count behind_root last rest is.3 plain.2 in omega arith
+  top_count_apart stage last (leaf gap text rest) is plain apart = let h : true ≡ false = sym plain.0 ∙ apart in absurd (cc)
+  top_count_apart stage last (leaf text_item text rest) is plain apart = absurd is
+  top_count_apart stage last (leaf reference_item text rest) is plain apart = absurd is
+  top_count_apart stage last (leaf comment_item text rest) is plain apart = absurd plain
+  top_count_apart stage last (leaf pi_item text rest) is plain apart = absurd plain
 
 pub plain_narrow : (bytes : List ℕ) (items : Items) → IsPlainDocument bytes items → IsNarrow 2000001 items
 plain_narrow bytes items is =
-    let count = top_count false items is.reading.ordered in
+    let leads : Leads before_doctype items behind_root = (reading_body bytes items is.reading is.plain).0 in
+    let count = top_count before_doctype behind_root items leads is.plain in
     let nodes = is.nodes in
-    (omega arith, narrow_more 1000000 2000001 items (omega arith) (top_narrow 1000000 false items is.reading.ordered is.plain is.nodes))
+    (omega arith, narrow_more 1000000 2000001 items (omega arith) (top_narrow 1000000 before_doctype behind_root items leads is.plain is.nodes))
 
 -- refusals
 
@@ -114,8 +124,8 @@ new_text_is items place new path text characters value from to at has (ascends, 
 }
 
 -- the item at a place of a plain document that is a text
-pub plain_text : (bytes : List ℕ) (items : Items) (place path text : List ℕ) → IsPlainDocument bytes items → IsAt items place path (leaf_item text_item text) → IsTextItem text
-plain_text bytes items place path text is at = text_at false items path text at.there is.reading.ordered
+pub plain_text : (bytes : List ℕ) (items : Items) (place path text : List ℕ) → IsPlainDocument bytes items → IsAt items place path (leaf_item text_item text) → IsPlainText text
+plain_text bytes items place path text is at = text_at items path text at.there is.plain
 
 pub new_text_there : (items : Items) (place new path value : List ℕ) (from to : ℕ) → IsNewText items place from to new path value → (text : List ℕ) × (item_at items path ≡ Some (leaf_item text_item text))
 new_text_there items place new path value from to is = by is.inside.item is.inside.value is.inside.at.there

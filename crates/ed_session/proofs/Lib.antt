@@ -1,3 +1,4 @@
+pub mod KeptLemmas
 pub mod PathLemmas
 pub mod RangeLemmas
 pub mod LeadLemmas

@@ -16,7 +16,7 @@ use Rattle.std.specs.Str.{chars}
 use Rattle.xt_spec.specs.Char.{is_char}
 use Rattle.xt_spec.specs.Tree.{Items, Item, source_text}
 use Rattle.xt_spec.specs.Plain.{IsPlainDocument}
-use Rattle.ed_spec.specs.Paths.{item_at}
+use Rattle.xt_spec.specs.Paths.{item_at}
 use Rattle.ed_spec.specs.Place.{path_of}
 use Rattle.ed_spec.specs.Edit as spec
 use Rattle.ed_spec.specs.Edit.{Edit, text_edit, is_text, IsAt, IsInText, range_replaced, Refuses, Accepts}

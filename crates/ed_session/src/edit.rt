@@ -4,9 +4,9 @@ ghost use Rattle.std.specs.List.{list_all};
 ghost use Rattle.std.specs.Str.{chars};
 ghost use Rattle.xt_spec.specs.Char as spec;
 ghost use Rattle.xt_spec.specs.Tree.{Items as SyntaxItems, leaf_item, text_item};
-ghost use Rattle.xt_spec.specs.Text.{IsTextItem, HasTextValue};
+ghost use Rattle.xt_spec.specs.PlainText.{IsPlainText, HasTextValue};
 ghost use Rattle.xt_spec.specs.Plain.{IsPlainDocument};
-ghost use Rattle.ed_spec.specs.Paths.{item_at};
+ghost use Rattle.xt_spec.specs.Paths.{item_at};
 ghost use Rattle.ed_spec.specs.Edit.{IsAt, is_text, range_replaced, text_edit};
 ghost use Rattle.xt_tree.specs.Meaning.{at_span, item_of, items_in};
 ghost use Rattle.xt_tree.specs.Places.{marks_of, AreInPlace};
@@ -26,7 +26,7 @@ use std::alloc::{AllocError, Global};
 use std::mem;
 use std::sync::ledger::Ledger;
 use xt_lex::{Span, Steps, is_char};
-use xt_read::read_document;
+use xt_read::read_plain;
 use xt_tree::{Patch, Src, item_at, splice};
 use xt_value::text_value;
 
@@ -87,7 +87,7 @@ fn bytes_at(bytes: &[u8], span: Span) -> &[u8]
 
 /// The value of a text item.
 fn value_of(alloc: Global, text: &[u8]) -> Result<String, AllocError>
-    ensures value { IsTextItem text.now → IfOk result (λ value. HasTextValue text.now (string_bytes value)) }
+    ensures value { IsPlainText text.now → IfOk result (λ value. HasTextValue text.now (string_bytes value)) }
 {
     match std::str::from_utf8(text) {
         Ok(text) => text_value(alloc, text),
@@ -145,7 +145,7 @@ fn read_again<L: Ledger>(
     ensures place { IfOk result (λ items. AreInPlace bytes.now 0 (marks_of items) (length bytes.now)) }
     ensures count { steps.new ≡ steps.old + length bytes.now }
 {
-    match read_document(alloc, bytes, steps) {
+    match read_plain(alloc, bytes, steps) {
         Ok(items) => Ok(items),
         Err(_) => Err(AllocError),
     }

@@ -19,7 +19,7 @@ use std::alloc::{AllocError, Global};
 use std::sync::ledger::Ledger;
 use thiserror::Error;
 use xt_lex::Steps;
-use xt_read::{Unread, read_document};
+use xt_read::{Unplain, read_plain};
 
 /// The most bytes that a file may have.
 pub(crate) const MOST_BYTES: usize = 4_194_304;
@@ -95,15 +95,15 @@ fn opened<L: Ledger>(
     ensures only { (fault : StartFault) → IsErrOf result fault → (fault ≡ StartFault.NotYet) ⊎ (fault ≡ StartFault.NoMemory) }
     ensures count { steps.new ≡ steps.old + length bytes.items }
 {
-    match read_document(alloc, bytes.as_slice(), steps) {
+    match read_plain(alloc, bytes.as_slice(), steps) {
         Ok(items) => Ok(Session {
             root,
             bytes,
             items,
             saved: None,
         }),
-        Err(Unread::NotPlain) => Err(StartFault::NotYet),
-        Err(Unread::NoMemory) => Err(StartFault::NoMemory),
+        Err(Unplain::NotPlain) => Err(StartFault::NotYet),
+        Err(Unplain::NoMemory) => Err(StartFault::NoMemory),
     }
 }
 

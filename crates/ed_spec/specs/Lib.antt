@@ -1,5 +1,3 @@
-pub mod Escape
-pub mod Paths
 pub mod TextEdit
 pub mod Place
 pub mod Book

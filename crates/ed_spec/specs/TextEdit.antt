@@ -7,8 +7,8 @@
 --   text_edited    the tree after the edit
 use Rattle.std.specs.Prelude.{ℕ, List, [], ◌∷◌, Bool, true, false, encode_utf8_all}
 use Rattle.xt_spec.specs.Tree.{Items, nil, leaf, text_item}
-use Rattle.ed_spec.specs.Escape.{escape_text}
-use Rattle.ed_spec.specs.Paths.{replaced}
+use Rattle.xt_spec.specs.Escape.{escape_text}
+use Rattle.xt_spec.specs.Paths.{replaced}
 
 -- a value as content
 abbrev pub text_written : List ℕ → Items

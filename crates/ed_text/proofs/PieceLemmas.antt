@@ -1,7 +1,7 @@
 -- A text among the pieces of its tree.
 use Rattle.std.proofs.Common.{◌≡◌, ◌∙◌, ℕ, zero, suc, List, [], ◌∷◌, ◌++◌, drop, refl, sym, ap, subst, append_assoc, append-nil, Option, Some, None}
 use Rattle.xt_spec.specs.Tree.{Items, nil, element, leaf, LeafKind, leaf_item, text_item, append}
-use Rattle.ed_spec.specs.Paths.{item_in, item_at, replaced_in}
+use Rattle.xt_spec.specs.Paths.{item_in, item_at, replaced_in}
 use Rattle.ed_spec.specs.TextEdit.{text_items}
 use Rattle.ed_text.specs.Pieces.{Piece, opens, closes, holds, pieces_of, ChangesOneText}
 

@@ -1,23 +1,23 @@
 -- A document with another text reads as its tree with that text, and a plain one stays plain.
-use Rattle.std.proofs.Common.{◌≡◌, ◌∙◌, ◌≢◌, ℕ, ◌≤◌, List, [], ◌∷◌, ◌++◌, length, take, drop, refl, sym, ap, subst, arith, append-nil, Option, Some, None, Bool, true, false, not, ◌&&◌, ◌==◌, nat_eq, encode_utf8_all, inl, inr, eqb-true, IfSome, is_some}
-use Rattle.std.proofs.lemmas.Bool.{and_parts, and_from, cases_Bool}
-use lib.Pointwise.{pointwise}
+use Rattle.std.proofs.Common.{◌≡◌, ◌∙◌, ◌≢◌, ℕ, ◌≤◌, List, [], ◌∷◌, ◌++◌, length, take, drop, refl, sym, ap, subst, arith, append-nil, Option, Some, None, Bool, true, false, not, ◌==◌, nat_eq, encode_utf8_all, IfSome, is_some}
+use Rattle.std.proofs.lemmas.Bool.{and_parts, and_from}
 use Rattle.std.proofs.lemmas.List.Folds.{list_all-append}
 use Rattle.std.proofs.lemmas.Str.{encodes-chars}
 use Rattle.std.specs.List.{list_all, starts_with}
 use Rattle.std.specs.Str.{IsUtf8, chars}
-use Rattle.xt_spec.specs.Char.{is_char, is_space}
-use Rattle.xt_spec.specs.Tree.{Items, nil, element, leaf, leaf_item, text_item, reference_item, comment_item, pi_item, gap, source_text, close_text}
-use Rattle.xt_spec.specs.Text.{HasTextValue}
-use Rattle.xt_spec.specs.Reading.{document, IsReading, IsTop}
+use Rattle.xt_spec.specs.Char.{is_char}
+use Rattle.xt_spec.specs.Tree.{Items, nil, leaf, leaf_item, text_item, source_text}
+use Rattle.xt_spec.specs.PlainText.{HasTextValue}
+use Rattle.xt_spec.specs.Reading.{before_doctype, mark, document, IsOrdered, IsReading}
+use Rattle.xt_read.proofs.Theorems.{reading_body}
 use Rattle.xt_spec.specs.Plain.{IsPlainDocument, IsPlainItems, node_count}
-use Rattle.ed_spec.specs.Escape.{escape_text}
-use Rattle.ed_spec.specs.Paths.{item_in, item_at, replaced_in}
+use Rattle.xt_spec.specs.Escape.{escape_text}
+use Rattle.xt_spec.specs.Paths.{item_in, item_at, replaced_in}
 use Rattle.ed_spec.specs.TextEdit.{text_written, text_as_it_is, text_items, text_edited}
 use Rattle.xt_escape.proofs.Theorems.{escape_is_text_item, escape_has_value, escape_has_no_cr, escape_is_utf8, chars_are_scalars}
 use Rattle.xt_lex.specs.declared.token.Span.{Span}
 use Rattle.xt_tree.specs.Spans.{IsClosed, Stands, IsItemSpan}
-use Rattle.ed_text.proofs.TextEditLemmas.{one_text, IsNew, top_kept, plain_kept, count_kept, top_text, same_replaced, new_at}
+use Rattle.ed_text.proofs.TextEditLemmas.{one_text, IsNew, document_kept, plain_kept, count_kept, document_text, no_mark, same_replaced, new_at}
 use Rattle.ed_text.proofs.Utf8Lemmas.{text_item_utf8, text_item_some, text_for_text}
 
 -- ---- the bytes that stand for a value
@@ -55,13 +55,13 @@ around file items index path text from to is joined stands =
 reads_in : (file : List ℕ) (items : Items) (index : ℕ) (path text cs new : List ℕ) (from to : ℕ) → item_in items index path ≡ Some (leaf_item text_item text) → Stands file items (index ∷ path) from to → new ≡ source_text (text_written cs)
     → list_all is_char cs ≡ true → IsReading document file items → IsReading document (take from file ++ new ++ drop to file) (replaced_in items index path (text_written cs))
 reads_in file items index path text cs new from to is stands written are reading =
-    let old_is = top_text false items index path text is reading.ordered in
+    let old_is = document_text items index path text is reading.ordered in
     let new_is : IsUtf8 new = subst IsUtf8 (sym (written ∙ written_text cs)) (escape_is_utf8 cs (chars_are_scalars cs are)) in
     let old_whole : IsUtf8 (take from file ++ text ++ drop to file) = subst IsUtf8 (sym (around file items index path text from to is reading.joined stands)) reading.utf8 in
     record {
       utf8 = text_for_text (take from file) text new (drop to file) (text_item_utf8 text old_is) (text_item_some text old_is) new_is old_whole;
       joined = stands.replaced (text_written cs) ∙ ap (λ t. take from file ++ t ++ drop to file) (sym written);
-      ordered = subst (λ o. IsTop false (replaced_in items index path o)) (sym (written_is cs)) (top_kept false items index path (new_text cs) (is_new cs are) (text, is) reading.ordered);
+      ordered = subst (λ o. IsOrdered document (replaced_in items index path o)) (sym (written_is cs)) (document_kept items index path (new_text cs) (is_new cs are) (text, is) reading.ordered);
     }
 
 pub still_reads : (file : List ℕ) (items : Items) (path cs new : List ℕ) (from to : ℕ) → (text : List ℕ) × (item_at items path ≡ Some (leaf_item text_item text)) → Stands file items path from to → new ≡ source_text (text_written cs)
@@ -70,27 +70,6 @@ still_reads file items [] cs new from to (text, is) stands written are reading =
 still_reads file items (index ∷ path) cs new from to (text, is) stands written are reading = reads_in file items index path text cs new from to is stands written are reading
 
 -- ---- plain documents
-
--- a document begins with a tag or with white space, and so with no byte order mark
-space_apart : (b : ℕ) → is_space b ≡ true → nat_eq 0xEF b ≡ false
-space_apart b is = elim (cases_Bool (nat_eq 0xEF b)) [
-  | inl e ↦ let same : is_space 0xEF ≡ true = subst (λ n. is_space n ≡ true) (sym (eqb-true 0xEF b e)) is in absurd cc
-  | inr e ↦ e
-]
-
-space_begins : (b : ℕ) (bytes rest : List ℕ) → is_space b ≡ true → starts_with nat_eq (b ∷ bytes ++ rest) (0xEF ∷ 0xBB ∷ 0xBF ∷ []) ≡ false
-space_begins b bytes rest is = ap (λ t. t && pointwise nat_eq (0xBB ∷ 0xBF ∷ []) (take 2 (bytes ++ rest))) (space_apart b is)
-
-pub no_mark : (items : Items) → IsTop false items → starts_with nat_eq (source_text items) (0xEF ∷ 0xBB ∷ 0xBF ∷ []) ≡ false
-no_mark nil top = absurd cc
-no_mark (element open_tag kids close rest) top =
-    subst (λ t. starts_with nat_eq (t ++ source_text kids ++ close_text close ++ source_text rest) (0xEF ∷ 0xBB ∷ 0xBF ∷ []) ≡ false) (sym top.1.element.spelled) refl
-no_mark (leaf gap [] rest) top = absurd (top.0.1 refl)
-no_mark (leaf gap (b ∷ bytes) rest) top = space_begins b bytes (source_text rest) (and_parts (is_space b) (list_all is_space bytes) top.0.0).0
-no_mark (leaf text_item t rest) top = absurd top
-no_mark (leaf reference_item t rest) top = absurd top
-no_mark (leaf comment_item t rest) top = absurd top
-no_mark (leaf pi_item t rest) top = absurd top
 
 no_cr_for : (front old new back : List ℕ) → list_all (λ b. not (b == 0xD)) (front ++ old ++ back) ≡ true → list_all (λ b. not (b == 0xD)) new ≡ true → list_all (λ b. not (b == 0xD)) (front ++ new ++ back) ≡ true
 no_cr_for front old new back whole new_is =
@@ -104,12 +83,14 @@ plain_in : (file : List ℕ) (items : Items) (index : ℕ) (path text cs new : L
 plain_in file items index path text cs new from to is stands written are plain size =
     let reading = reads_in file items index path text cs new from to is stands written are plain.reading in
     let around_is = around file items index path text from to is plain.reading.joined stands in
+    let others = replaced_in items index path (text_written cs) in
+    let plain_is : IsPlainItems others = subst (λ o. IsPlainItems (replaced_in items index path o)) (sym (written_is cs)) (plain_kept items index path (new_text cs) (is_new cs are) (text, is) plain.plain) in
     record {
       size = size;
-      unmarked = subst (λ t. starts_with nat_eq t (0xEF ∷ 0xBB ∷ 0xBF ∷ []) ≡ false) reading.joined (no_mark (replaced_in items index path (text_written cs)) reading.ordered);
+      unmarked = subst (λ t. starts_with nat_eq t mark ≡ false) reading.joined (no_mark before_doctype others refl (reading_body (source_text others) others (record { utf8 = subst IsUtf8 (sym reading.joined) reading.utf8; joined = refl; ordered = reading.ordered }) plain_is).0);
       no_cr = no_cr_for (take from file) text new (drop to file) (subst (λ t. list_all (λ b. not (b == 0xD)) t ≡ true) (sym around_is) plain.no_cr) (subst (λ t. list_all (λ b. not (b == 0xD)) t ≡ true) (sym (written ∙ written_text cs)) (escape_has_no_cr cs));
       reading = reading;
-      plain = subst (λ o. IsPlainItems (replaced_in items index path o)) (sym (written_is cs)) (plain_kept items index path (new_text cs) (text, is) plain.plain);
+      plain = plain_is;
       nodes = subst (λ o. node_count (replaced_in items index path o) ≤ 1000000) (sym (written_is cs)) (omega (arith, count_kept items index path (new_text cs) (text, is), plain.nodes));
     }
 

@@ -6,6 +6,6 @@
 --   same_replaced             a text in its own place changes nothing
 --   text_for_text             a text that stands in UTF-8 may be another text
 pub use Rattle.ed_text.proofs.PieceLemmas.{one_changes, told_by_pieces}
-pub use Rattle.ed_text.proofs.ReadingLemmas.{still_reads, still_plain, has_new_value, no_mark}
-pub use Rattle.ed_text.proofs.TextEditLemmas.{same_replaced, new_at}
+pub use Rattle.ed_text.proofs.ReadingLemmas.{still_reads, still_plain, has_new_value}
+pub use Rattle.ed_text.proofs.TextEditLemmas.{same_replaced, new_at, no_mark}
 pub use Rattle.ed_text.proofs.Utf8Lemmas.{text_for_text, text_item_utf8, text_item_some}

@@ -3,23 +3,32 @@ use Rattle.std.proofs.Common.{◌≡◌, ◌∙◌, ℕ, ◌+◌, ◌<◌, List,
 use Rattle.std.proofs.lemmas.List.{take_at, drop_at, get_or_append_left, get_or-append-add}
 use Rattle.std.proofs.lemmas.Str.{IsUtf8-append, IsUtf8-take, IsUtf8-drop, IsUtf8-nil, IsUtf8-past_char, IsCharBoundary-start}
 use Rattle.std.specs.Str.{IsUtf8, IsCharBoundary}
-use Rattle.xt_spec.specs.Token.{TokenKind, char_data, char_ref, entity_ref, Spells}
-use Rattle.xt_spec.specs.Text.{TextPart, data_part, reference_part, part_text, parts_text, AreTextParts, IsTextItem}
+use Rattle.xt_spec.specs.Token.{TokenKind, char_data, char_ref, entity_ref, cdata_section, Spells}
+use Rattle.xt_spec.specs.Markup.{IsSectionOf}
+use Rattle.xt_spec.specs.Text.{TextPart, data_part, reference_part, section_part, part_text, parts_text, begins_with_data, AreTextParts, IsTextItem}
+use Rattle.xt_spec.specs.PlainText as plain
+use Rattle.xt_spec.specs.PlainText.{PlainPart, ArePlainParts, IsPlainText}
 use Rattle.xt_lex.proofs.Theorems.{token_longest, front_some, spells_utf8, stands_spells}
 
 token_some : (kind : TokenKind) (text : List ℕ) → Spells kind text → 0 < length text
 token_some kind text spells = front_some (text ++ []) kind (length text) (token_longest kind text [] spells (λ _. tt)).front
 
-pub parts_utf8 : (parts : List TextPart) → AreTextParts parts → IsUtf8 (parts_text parts)
+section_spells : (text content : List ℕ) → IsSectionOf text content → Spells cdata_section text
+section_spells text content is = (content, is.0, is.1, is.2)
+
+parts_utf8 : (parts : List TextPart) → AreTextParts parts → IsUtf8 (parts_text parts)
 parts_utf8 [] are = IsUtf8-nil
 parts_utf8 (data_part text ∷ parts) are = IsUtf8-append text (parts_text parts) (spells_utf8 char_data text are.0) (parts_utf8 parts are.2)
 parts_utf8 (reference_part text c ∷ parts) are =
     let one : IsUtf8 text = elim (stands_spells text c are.0) [ inl s ↦ spells_utf8 char_ref text s | inr s ↦ spells_utf8 entity_ref text s ] in
     IsUtf8-append text (parts_text parts) one (parts_utf8 parts are.1)
+parts_utf8 (section_part text content ∷ parts) are =
+    IsUtf8-append text (parts_text parts) (spells_utf8 cdata_section text (section_spells text content are.0)) (parts_utf8 parts are.1)
 
 part_some : (part : TextPart) (parts : List TextPart) → AreTextParts (part ∷ parts) → 0 < length (part_text part)
 part_some (data_part text) parts are = token_some char_data text are.0
 part_some (reference_part text c) parts are = elim (stands_spells text c are.0) [ inl s ↦ token_some char_ref text s | inr s ↦ token_some entity_ref text s ]
+part_some (section_part text content) parts are = token_some cdata_section text (section_spells text content are.0)
 
 pub text_item_utf8 : (text : List ℕ) → IsTextItem text → IsUtf8 text
 text_item_utf8 text (parts, are, some, spell) = subst IsUtf8 spell (parts_utf8 parts are)
@@ -27,6 +36,38 @@ text_item_utf8 text (parts, are, some, spell) = subst IsUtf8 spell (parts_utf8 p
 pub text_item_some : (text : List ℕ) → IsTextItem text → 0 < length text
 text_item_some text ([], are, some, spell) = absurd (some refl)
 text_item_some text (part ∷ parts, are, some, spell) = omega (arith, part_some part parts are, ap length spell, length-append (part_text part) (parts_text parts))
+
+-- a text item without CDATA sections is one
+record IsAmong (parts : List PlainPart) : Type 0 where
+  all : List TextPart
+  are : AreTextParts all
+  joined : parts_text all ≡ plain.parts_text parts
+  begins : begins_with_data all ≡ plain.begins_with_data parts
+  none : all ≡ [] → parts ≡ []
+
+among : (parts : List PlainPart) → ArePlainParts parts → IsAmong parts
+among [] are = record { all = []; are = tt; joined = refl; begins = refl; none = λ e. refl }
+among (plain.data_part t ∷ parts) are =
+    let others = among parts are.2 in
+    record {
+      all = data_part t ∷ others.all;
+      are = (are.0, others.begins ∙ are.1, others.are);
+      joined = ap (λ l. t ++ l) others.joined;
+      begins = refl;
+      none = λ e. let h : ◌≡◌ {A = List TextPart} (data_part t ∷ others.all) [] = e in absurd (cc);
+    }
+among (plain.reference_part t c ∷ parts) are =
+    let others = among parts are.1 in
+    record {
+      all = reference_part t c ∷ others.all;
+      are = (are.0, others.are);
+      joined = ap (λ l. t ++ l) others.joined;
+      begins = refl;
+      none = λ e. let h : ◌≡◌ {A = List TextPart} (reference_part t c ∷ others.all) [] = e in absurd (cc);
+    }
+
+pub plain_is_text : (text : List ℕ) → IsPlainText text → IsTextItem text
+plain_is_text text (parts, are, some, spell) = let a = among parts are in (a.all, a.are, (λ e. some (a.none e)), a.joined ∙ spell)
 
 -- what stands behind characters in a text is text
 behind_chars : (cs back : List ℕ) → IsUtf8 (encode_utf8_all cs ++ back) → IsUtf8 back

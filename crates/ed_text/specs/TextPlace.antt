@@ -1,7 +1,7 @@
 -- Where a text may be edited. Of this project.
 use Rattle.std.specs.Prelude.{◌≡◌, ℕ, List, Some}
 use Rattle.xt_spec.specs.Tree.{Items, Item, leaf_item, text_item}
-use Rattle.ed_spec.specs.Paths.{item_at}
+use Rattle.xt_spec.specs.Paths.{item_at}
 
 -- the item is a text item
 abbrev pub IsText : Item → Type 0

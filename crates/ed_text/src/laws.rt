@@ -2,7 +2,7 @@
 
 ghost use Rattle.std.specs.Prelude.{◌≡◌, List, ℕ, Some};
 ghost use Rattle.xt_spec.specs.Tree.{Items, leaf_item, text_item};
-ghost use Rattle.ed_spec.specs.Paths.{item_at};
+ghost use Rattle.xt_spec.specs.Paths.{item_at};
 ghost use Rattle.ed_text.specs.Pieces.{pieces_of, ChangesOneText};
 
 /// An edit of a text changes this text alone: every other tag and leaf is as before, in the same order.

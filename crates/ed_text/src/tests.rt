@@ -11,7 +11,7 @@ use std::marker::Brand;
 use std::sync::ledger::{Blank, Ledger};
 use std::test::Fail;
 use xt_lex::{Span, Steps};
-use xt_read::read_document;
+use xt_read::read_plain;
 use xt_tree::{Src, splice};
 
 /// The file with this value at the path; as it is, where no text is there.
@@ -46,7 +46,7 @@ fn edited_over<L: Ledger>(
     requires some { L.parts ≡ 1 }
 {
     let mut steps = Steps::<L>::new(blank);
-    let items = read_document(alloc, file, &mut steps)?;
+    let items = read_plain(alloc, file, &mut steps)?;
     with_text(alloc, file, items.as_slice(), path, value.as_str(), false)
 }
 

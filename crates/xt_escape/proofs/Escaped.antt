@@ -8,7 +8,7 @@ use Rattle.std.specs.List.{list_all}
 use lib.Utf8.{scalar, scalars}
 use Rattle.xt_spec.specs.Char.{is_char}
 use Rattle.xt_spec.specs.Reference.{StandsFor}
-use Rattle.ed_spec.specs.Escape.{escape_char, escape_at, escape_from}
+use Rattle.xt_spec.specs.Escape.{escape_char, escape_at, escape_from}
 use Rattle.xt_escape.proofs.Parts.{has_no_cr, Written, nothing_written, reference_written, kept_written}
 
 pub ascii_bytes : (cs : List ℕ) → list_all (λ c. ltb c 128) cs ≡ true → encode_utf8_all cs ≡ cs

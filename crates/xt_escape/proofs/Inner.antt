@@ -10,7 +10,7 @@ use Rattle.std.proofs.lemmas.Str.{encode_ascii, encodes-append, encodes-chars, c
 use Rattle.std.specs.List.{list_all, flat_map, prefix_len}
 use Rattle.std.specs.Str.{chars, IsUtf8, IsCharBoundary}
 use lib.Utf8.{encode}
-use Rattle.ed_spec.specs.Escape.{escape_char, escape_from, escape_text}
+use Rattle.xt_spec.specs.Escape.{escape_char, escape_from, escape_text}
 use Rattle.xt_escape.specs.Kept.{is_kept_byte, inner_text}
 use Rattle.xt_escape.proofs.Escaped.{ascii_bytes}
 

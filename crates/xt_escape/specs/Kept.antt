@@ -5,7 +5,7 @@
 use Rattle.std.specs.Prelude.{ℕ, Bool, ◌||◌, ◌==◌, not, List, encode_utf8_all}
 use Rattle.std.specs.List.{flat_map}
 use Rattle.std.specs.Str.{chars}
-use Rattle.ed_spec.specs.Escape.{escape_char}
+use Rattle.xt_spec.specs.Escape.{escape_char}
 
 -- the byte is none of `&`, `<`, `>` and CR, and not the first one of U+FEFF
 abbrev pub is_kept_byte : ℕ → Bool

@@ -28,7 +28,7 @@ utf8_rest s p r u v e =
     let rest = strip u.0 v.0 r (u.1.1 ∙ e ∙ ap (λ t. t ++ r) (sym v.1.1)) in
     (rest.0, (scalars_behind v.0 rest.0 (subst (λ cs. scalars cs ≡ true) rest.1 u.1.0), rest.2))
 
-space_takes : (s r : List ℕ) → after_space s ≡ Some r → (p : List ℕ) × IsSpace p × (s ≡ p ++ r)
+pub space_takes : (s r : List ℕ) → after_space s ≡ Some r → (p : List ℕ) × IsSpace p × (s ≡ p ++ r)
 space_takes [] r h = absurd (cc)
 space_takes (b ∷ bs) r h =
     elim (cases_Bool (is_space b)) [
@@ -118,14 +118,14 @@ attribute_takes s r u h =
     let front = rests_takes s found.0 u found.1 in
     (front.parts, front.is_attribute, front_whole s found.0 front ∙ ap (λ t. attribute_text front.parts ++ t) found.2, subst IsUtf8 found.2 front.utf8)
 
-space_again : (sp x : List ℕ) → IsSpace sp → behind is_space x ≡ x → after_space (sp ++ x) ≡ Some x
+pub space_again : (sp x : List ℕ) → IsSpace sp → behind is_space x ≡ x → after_space (sp ++ x) ≡ Some x
 space_again [] x h solid = absurd (h.1 refl)
 space_again (b ∷ bs) x h solid =
     let both = and_parts _ _ h.0 in
     let first : is_space b ≡ true = both.0 in
     rw first (ap (λ t. Some t) (behind_append is_space bs x both.1 ∙ solid))
 
-name_solid : (name y : List ℕ) → IsQName name → behind is_space (name ++ y) ≡ name ++ y
+pub name_solid : (name y : List ℕ) → IsQName name → behind is_space (name ++ y) ≡ name ++ y
 name_solid [] y q = absurd (omega (arith, qname_nonempty [] q))
 name_solid (c ∷ cs) y q =
     let byte = (and_parts _ _ (qname_bytes (c ∷ cs) q)).0 in
@@ -186,7 +186,7 @@ pub parts_utf8 : (parts : List Attribute) → AllByRecursion IsAttribute parts �
 parts_utf8 [] h = IsUtf8-nil
 parts_utf8 (p ∷ ps) h = IsUtf8-append (attribute_text p) (concat (map attribute_text ps)) (attribute_utf8 p h.0) (parts_utf8 ps h.1)
 
-longer : (p r s : List ℕ) → p ≢ [] → s ≡ p ++ r → length r < length s
+pub longer : (p r s : List ℕ) → p ≢ [] → s ≡ p ++ r → length r < length s
 longer [] r s some e = absurd (some refl)
 longer (b ∷ bs) r s some e = omega (arith, ap length e, length-append bs r)
 

@@ -1,10 +1,17 @@
 -- The definitions computed on right and on wrong cases.
-use Rattle.std.proofs.Common.{◌≡◌, true, false, refl, inl, inr, codes, arith}
+use Rattle.std.proofs.Common.{◌≡◌, true, false, refl, ◌∷◌, ◌++◌, inl, inr, [], Some, None, codes, arith}
+use Rattle.xt_spec.specs.Declaration.{is_version_num, is_enc_name, is_yes_or_no, is_utf8_or_absent, Declaration, IsDeclarationOf, is_xml_declaration, is_text_declaration}
+use Rattle.xt_spec.specs.Doctype.{is_pubid_char, literal_part, comment_part, pi_part, other_part, AreSubsetParts, IsSubset, IsDoctype}
+use Rattle.xt_spec.specs.Markup.{lacks, IsCDataSection, IsComment, is_reserved, IsPi}
+use Rattle.xt_spec.specs.Char.{is_char}
 use Rattle.xt_spec.specs.Tag.{Attribute}
 use Rattle.xt_lex.specs.Fast.{is_plain_name}
 use Rattle.xt_lex.specs.NameTest.{is_name_byte}
 use Rattle.xt_lex.specs.Place.{Follows, EndsName, EndsTag, AreSpansOf}
 use Rattle.xt_lex.specs.Scan.{run, behind}
+use Rattle.xt_lex.proofs.Utf8.{ascii}
+use Rattle.xt_lex.proofs.Spelling.{spelt_ascii}
+use Rattle.xt_lex.proofs.Spelled.{plain_is_ncname}
 
 -- behind a name may stand `=`, and no letter
 equals_ends_a_name : EndsName (codes "='v'")
@@ -55,3 +62,112 @@ no_short_value : AreSpansOf spaced 2 (record {
   whole = record { from = 2; to = 11 };
 }) → ⊥
 no_short_value spans = let e = spans.value_to in absurd (omega arith)
+
+-- a CDATA section holds markup as text, and no `]]>`
+cdata_holds_tags : IsCDataSection (codes "<![CDATA[<a>&]]]>")
+cdata_holds_tags = (codes "<a>&]", spelt_ascii is_char (codes "<a>&]") refl refl, refl, refl)
+
+cdata_ends_at_the_first : (lacks (codes "]]>") (codes "a]]b") ≡ true) × (lacks (codes "]]>") (codes "a]]>b") ≡ false)
+cdata_ends_at_the_first = (refl, refl)
+
+-- a comment may hold a `-`, and no two; so none ends in `--->`
+comment_holds_a_dash : IsComment (codes "<!-- a-b -->")
+comment_holds_a_dash = (codes " a-b ", spelt_ascii is_char (codes " a-b ") refl refl, refl, refl)
+
+no_dash_ends_a_comment : (lacks (codes "--") (codes " a-" ++ codes "-") ≡ false) × (lacks (codes "--") (codes "a--b" ++ codes "-") ≡ false)
+no_dash_ends_a_comment = (refl, refl)
+
+-- `xml` in any letter case is no target of a PI, and what begins with it may be one
+reserved_targets : (is_reserved (codes "xml") ≡ true) × (is_reserved (codes "XmL") ≡ true) × (is_reserved (codes "xml-stylesheet") ≡ false)
+reserved_targets = (refl, refl, refl)
+
+pi_with_data : IsPi (codes "<?sort  by=\"a?\"?>")
+pi_with_data = (
+  codes "sort",
+  codes "  by=\"a?\"",
+  (plain_is_ncname (codes "sort") refl, refl),
+  inr (codes "  ", codes "by=\"a?\"", (refl, λ e. cc), spelt_ascii is_char (codes "by=\"a?\"") refl refl, refl, refl),
+  refl,
+)
+
+pi_without_data : IsPi (codes "<?page?>")
+pi_without_data = (codes "page", codes "", (plain_is_ncname (codes "page") refl, refl), inl refl, refl)
+
+versions : (is_version_num (codes "1.0") ≡ true) × (is_version_num (codes "1.") ≡ false) × (is_version_num (codes "2.0") ≡ false)
+versions = (refl, refl, refl)
+
+encodings : (is_enc_name (codes "ISO-8859-1") ≡ true) × (is_enc_name (codes "8-UTF") ≡ false) × (is_enc_name (codes "") ≡ false)
+encodings = (refl, refl, refl)
+
+standalone_is_yes_or_no : (is_yes_or_no (codes "no") ≡ true) × (is_yes_or_no (codes "maybe") ≡ false) × (is_yes_or_no (codes "Yes") ≡ false)
+standalone_is_yes_or_no = (refl, refl, refl)
+
+utf8_in_any_case : (is_utf8_or_absent (Some (codes "utf-8")) ≡ true) × (is_utf8_or_absent None ≡ true) × (is_utf8_or_absent (Some (codes "UTF-16")) ≡ false)
+utf8_in_any_case = (refl, refl, refl)
+
+-- without a version it is a text declaration, and no XML declaration
+abbrev utf8_alone : Declaration
+utf8_alone = record { version = None; encoding = Some (codes "UTF-8"); standalone = None }
+
+text_declaration : IsDeclarationOf utf8_alone (codes "<?xml encoding=\"UTF-8\"?>")
+text_declaration = record {
+  version = [];
+  encoding = codes " encoding=\"UTF-8\"";
+  standalone = [];
+  blank = [];
+  has_version = refl;
+  has_encoding = (
+    refl,
+    record {
+      space = codes " ";
+      equals = codes "=";
+      quoted = codes "\"UTF-8\"";
+      is_space = (refl, λ e. cc);
+      is_eq = ([], [], refl, refl, refl);
+      is_quoted = (34, inl refl, refl, refl);
+      spelled = refl;
+    },
+  );
+  has_standalone = refl;
+  is_blank = refl;
+  form = refl;
+  spelled = refl;
+}
+
+no_xml_declaration : (is_xml_declaration utf8_alone ≡ false) × (is_text_declaration utf8_alone ≡ true)
+no_xml_declaration = (refl, refl)
+
+-- a `]` in a literal, a comment or a PI doesn't end a subset
+subset_goes_on : IsSubset (codes "<']'<!-- ] --><?a ]?>")
+subset_goes_on = (
+  other_part 60 ∷ literal_part 39 (codes "]") ∷ comment_part (codes " ] ") ∷ pi_part (codes "a ]") ∷ [],
+  ((refl, refl, refl), ((inr refl, refl), (refl, (refl, tt)))),
+  ascii (codes "<']'<!-- ] --><?a ]?>") refl,
+  refl,
+)
+
+-- .. and one outside of them is no part of it
+no_bracket_in_a_subset : AreSubsetParts (other_part 93 ∷ []) → ⊥
+no_bracket_in_a_subset h = let wrong = h.0.0 in absurd (cc)
+
+-- the `<` that begins a comment is not read alone
+no_lone_comment : AreSubsetParts (other_part 60 ∷ other_part 33 ∷ other_part 45 ∷ other_part 45 ∷ []) → ⊥
+no_lone_comment h = let wrong = h.0.1 in absurd (cc)
+
+public_characters : (is_pubid_char 39 ≡ true) × (is_pubid_char 34 ≡ false) × (is_pubid_char 9 ≡ false)
+public_characters = (refl, refl, refl)
+
+shortest_doctype : IsDoctype (codes "<!DOCTYPE a>")
+shortest_doctype = record {
+  space = codes " ";
+  name = codes "a";
+  external = [];
+  blank = [];
+  brackets = [];
+  is_space = (refl, λ e. cc);
+  is_name = inl (plain_is_ncname (codes "a") refl);
+  is_external = inl refl;
+  is_blank = refl;
+  is_brackets = inl refl;
+  spelled = refl;
+}

@@ -6,13 +6,14 @@ use Rattle.std.proofs.lemmas.Str.{NoCharPasses-byte, byte_from_char, encode_same
 use Rattle.std.specs.List.{AllByRecursion}
 use Rattle.std.specs.Str.{IsUtf8, NonePass}
 use Rattle.xt_spec.specs.Char.{is_char}
-use Rattle.xt_spec.specs.Token.{TokenKind, start_tag, empty_tag, end_tag, char_data, char_ref, entity_ref, IsPlain, Spells, BeginsClose, HoldsNoClose, MayStand, IsFront, NoFront, IsLongestFront}
+use Rattle.xt_spec.specs.Token.{TokenKind, start_tag, empty_tag, end_tag, char_data, char_ref, entity_ref, cdata_section, comment, pi, declaration, doctype, IsPlain, Spells, BeginsClose, HoldsNoClose, MayStand, IsFront, NoFront, IsLongestFront}
 use Rattle.xt_lex.specs.Data.{IsDelimiter, IsFirstData, is_no_char}
-use Rattle.xt_lex.specs.Scan.{markup, reference, delimited}
+use Rattle.xt_lex.specs.Scan.{angled, reference, delimited}
 use Rattle.xt_lex.proofs.DataLemmas.{drop_longer, close_reads}
 use Rattle.xt_lex.proofs.References.{IsFound, pair_parts, reference_takes, reference_again, found_inner}
 use Rattle.xt_lex.proofs.Spelling.{strip}
-use Rattle.xt_lex.proofs.Tags.{IsMarkup, no_markup, no_markup_ref, markup_takes, markup_again}
+use Rattle.xt_lex.proofs.Angled.{IsSpecial, IsAngled, angled_takes, angled_again, special_begins}
+use Rattle.xt_lex.proofs.Tags.{IsMarkup, no_markup, no_markup_ref, no_markup_other}
 
 -- the characters of character data
 plain_chars : (cs text : List ℕ) → encode_utf8_all cs ≡ text → NonePass is_no_char cs → ((i : ℕ) → i < length text → ¬ (IsDelimiter (get_or text i 0))) → AllByRecursion IsPlain cs
@@ -63,24 +64,33 @@ chars_begin s n f =
     let first : get_or (take n s) 0 0 ≡ get_or s 0 0 = get_or-take n s 0 0 pos in
     (pos, λ h. plain_bytes cs (take n s) (sym f.spelled.3) f.spelled.2 0 (omega arith) (subst IsDelimiter (sym first) h))
 
--- every kind is character data, a tag or a reference
+-- every kind is character data, begins with `<`, or is a reference
 abbrev pub IsRef : TokenKind → Type 0
 IsRef k = (k ≡ char_ref) ⊎ (k ≡ entity_ref)
 
-pub kinds : (k : TokenKind) → (k ≡ char_data) ⊎ (IsMarkup k ⊎ IsRef k)
-kinds start_tag = inr (inl (inl refl))
-kinds empty_tag = inr (inl (inr (inl refl)))
-kinds end_tag = inr (inl (inr (inr refl)))
+pub kinds : (k : TokenKind) → (k ≡ char_data) ⊎ (IsAngled k ⊎ IsRef k)
+kinds start_tag = inr (inl (inl (inl refl)))
+kinds empty_tag = inr (inl (inl (inr (inl refl))))
+kinds end_tag = inr (inl (inl (inr (inr refl))))
+kinds cdata_section = inr (inl (inr tt))
+kinds comment = inr (inl (inr tt))
+kinds pi = inr (inl (inr tt))
+kinds declaration = inr (inl (inr tt))
+kinds doctype = inr (inl (inr tt))
 kinds char_data = inl refl
 kinds char_ref = inr (inr (inl refl))
 kinds entity_ref = inr (inr (inr refl))
 
 -- a token that ends at a delimiter of its own
 abbrev pub IsDelimited : TokenKind → Type 0
-IsDelimited k = IsMarkup k ⊎ IsRef k
+IsDelimited k = IsAngled k ⊎ IsRef k
+
+special_data : (k : TokenKind) → k ≡ char_data → IsSpecial k → ⊥
+special_data k e s = subst IsSpecial e s
 
 pub not_data : (k : TokenKind) → k ≡ char_data → IsDelimited k → ⊥
-not_data k e (inl m) = no_markup k e m
+not_data k e (inl (inl m)) = no_markup k e m
+not_data k e (inl (inr s)) = special_data k e s
 not_data k e (inr (inl r)) = absurd (cc)
 not_data k e (inr (inr r)) = absurd (cc)
 
@@ -99,6 +109,16 @@ spells_found char_data t h (inr e) = absurd (cc)
 spells_found start_tag t h r = absurd (no_markup_ref start_tag r (inl refl))
 spells_found empty_tag t h r = absurd (no_markup_ref empty_tag r (inr (inl refl)))
 spells_found end_tag t h r = absurd (no_markup_ref end_tag r (inr (inr refl)))
+spells_found cdata_section t h (inl e) = absurd (cc)
+spells_found cdata_section t h (inr e) = absurd (cc)
+spells_found comment t h (inl e) = absurd (cc)
+spells_found comment t h (inr e) = absurd (cc)
+spells_found pi t h (inl e) = absurd (cc)
+spells_found pi t h (inr e) = absurd (cc)
+spells_found declaration t h (inl e) = absurd (cc)
+spells_found declaration t h (inr e) = absurd (cc)
+spells_found doctype t h (inl e) = absurd (cc)
+spells_found doctype t h (inr e) = absurd (cc)
 
 -- a tag begins with `<`
 markup_begins : (k : TokenKind) (t : List ℕ) → Spells k t → IsMarkup k → (x : List ℕ) × (t ≡ 60 ∷ x)
@@ -108,16 +128,26 @@ markup_begins end_tag t (name, q, (blank, b, e)) m = (_, e)
 markup_begins char_data t s m = absurd (no_markup char_data refl m)
 markup_begins char_ref t s m = absurd (no_markup_ref char_ref (inl refl) m)
 markup_begins entity_ref t s m = absurd (no_markup_ref entity_ref (inr refl) m)
+markup_begins cdata_section t s m = absurd (no_markup_other cdata_section (λ e. cc) (λ e. cc) (λ e. cc) m)
+markup_begins comment t s m = absurd (no_markup_other comment (λ e. cc) (λ e. cc) (λ e. cc) m)
+markup_begins pi t s m = absurd (no_markup_other pi (λ e. cc) (λ e. cc) (λ e. cc) m)
+markup_begins declaration t s m = absurd (no_markup_other declaration (λ e. cc) (λ e. cc) (λ e. cc) m)
+markup_begins doctype t s m = absurd (no_markup_other doctype (λ e. cc) (λ e. cc) (λ e. cc) m)
+
+-- what begins with `<`
+angled_begins : (k : TokenKind) (t : List ℕ) → Spells k t → IsAngled k → (x : List ℕ) × (t ≡ 60 ∷ x)
+angled_begins k t h (inl m) = markup_begins k t h m
+angled_begins k t h (inr s) = special_begins k t h s
 
 pub delimited_begins : (k : TokenKind) (t : List ℕ) → Spells k t → IsDelimited k → (b : ℕ) × (x : List ℕ) × (t ≡ b ∷ x) × IsDelimiter b
-delimited_begins k t s (inl m) = let first = markup_begins k t s m in (60, first.0, first.1, inl refl)
+delimited_begins k t s (inl m) = let first = angled_begins k t s m in (60, first.0, first.1, inl refl)
 delimited_begins k t s (inr r) = let inner = found_inner k t (spells_found k t s r) in (38, inner.0, inner.1, inr refl)
 
 pub delimited_again : (t r : List ℕ) (k : TokenKind) → Spells k t → IsDelimited k → delimited (t ++ r) ≡ Some (k, r)
 delimited_again t r k s (inl m) =
-    let first = markup_begins k t s m in
+    let first = angled_begins k t s m in
     let split : t ++ r ≡ 60 ∷ (first.0 ++ r) = ap (λ t. t ++ r) first.1 in
-    ap delimited split ∙ ap markup (sym split) ∙ markup_again t r k s m
+    ap delimited split ∙ ap angled (sym split) ∙ angled_again t r k s m
 delimited_again t r k s (inr ref) =
     let found = spells_found k t s ref in
     let inner = found_inner k t found in
@@ -129,7 +159,7 @@ delimited_takes [] r k u h = absurd (cc)
 delimited_takes (b ∷ bs) r k u h =
     elim (cases_Bool (eqb b 60)) [
       | inl e ↦
-          let found = markup_takes (b ∷ bs) r k u (rw e at h) in
+          let found = angled_takes (b ∷ bs) r k u (rw e at h) in
           (found.0, found.1, found.2, inl found.3)
       | inr e ↦ elim (cases_Bool (eqb b 38)) [
         | inl f ↦
@@ -162,6 +192,11 @@ stands_delimited empty_tag n s h = tt
 stands_delimited end_tag n s h = tt
 stands_delimited char_ref n s h = tt
 stands_delimited entity_ref n s h = tt
+stands_delimited cdata_section n s h = tt
+stands_delimited comment n s h = tt
+stands_delimited pi n s h = tt
+stands_delimited declaration n s h = tt
+stands_delimited doctype n s h = tt
 
 pub delimited_shorter : (s r : List ℕ) (k : TokenKind) → IsUtf8 s → delimited s ≡ Some (k, r) → length r ≤ length s
 delimited_shorter s r k u h =

@@ -10,7 +10,13 @@ pub mod Attributes
 pub mod Many
 pub mod Sound
 pub mod DataLemmas
+pub mod Cuts
 pub mod Tags
+pub mod Instructions
+pub mod Declarations
+pub mod Subsets
+pub mod Doctypes
+pub mod Angled
 pub mod Fronts
 pub mod Texts
 pub mod Places

@@ -13,7 +13,7 @@ use denote.Ref.{Bor}
 use Rattle.xt_spec.specs.Char.{is_space}
 use Rattle.xt_spec.specs.Reference.{is_decimal_digit, is_hexadecimal_digit}
 use Rattle.xt_lex.specs.NameTest.{is_name_byte}
-use Rattle.xt_lex.specs.Scan.{run, behind, after}
+use Rattle.xt_lex.specs.Scan.{run, behind, after, is_plain_in_subset}
 
 pub run_is : (p : ℕ → Bool) (s : List ℕ) → take (prefix_len p s) s ≡ run p s
 run_is p [] = refl
@@ -57,6 +57,9 @@ boundary_behind_or_start p s u ascii n is =
       | inl some ↦ boundary_behind p s u ascii n is some
       | inr none ↦ let e : n ≡ 0 = omega arith in rw e (IsCharBoundary-start s u)
     ]
+
+pub mark_ascii : (b : ℕ) → is_plain_in_subset b ≡ false → b < 128
+mark_ascii b h = grind (arith, nat_tests)
 
 pub decimal_ascii : (b : ℕ) → is_decimal_digit b ≡ true → b < 128
 decimal_ascii b h = grind (arith, nat_tests)

@@ -13,7 +13,7 @@ use Rattle.xt_spec.specs.Name.{are_ncname_chars}
 use Rattle.xt_lex.specs.Data.{is_no_char, AreFirstChars}
 use Rattle.xt_lex.specs.Fast.{is_sound_byte, is_attr_byte, is_plain_start, is_plain_byte, is_plain_name}
 use Rattle.xt_lex.specs.NameTest.{qname}
-use Rattle.xt_lex.specs.Scan.{is_attr_char}
+use Rattle.xt_lex.specs.Scan.{is_attr_char, are_chars}
 use Rattle.xt_lex.proofs.NameLemmas.{ncname_from_test, test_from_qname}
 use Rattle.xt_lex.proofs.Spelling.{list_all_weaker}
 use Rattle.xt_lex.proofs.Utf8.{ascii_from, ascii}
@@ -154,3 +154,9 @@ plain_qname_value text bytes b same e is = is ∙ sym (plain_qname text (ap is_p
 
 pub attr_bytes_value : (text bytes : List ℕ) (b : Bool) → IsUtf8 text → bytes ≡ text → b ≡ list_all is_attr_byte bytes → b ≡ true → b ≡ list_all is_attr_char (chars text)
 attr_bytes_value text bytes b u same e is = is ∙ sym (attr_bytes text u (ap (λ t. list_all is_attr_byte t) (sym same) ∙ sym e ∙ is))
+
+pub sound_bytes_value : (text bytes : List ℕ) (b : Bool) → IsUtf8 text → bytes ≡ text → b ≡ list_all is_sound_byte bytes → b ≡ true → b ≡ are_chars text
+sound_bytes_value text bytes b (cs, (s, e)) same is passed =
+    let read : chars text ≡ cs = ap chars (sym e) ∙ chars-encodes cs s in
+    let all : list_all is_sound_byte (encode_utf8_all cs) ≡ true = subst (λ t. list_all is_sound_byte t ≡ true) (same ∙ sym e) (sym is ∙ passed) in
+    passed ∙ sym (ap (list_all is_char) read ∙ sound_chars cs s all)

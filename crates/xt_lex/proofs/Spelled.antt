@@ -16,7 +16,7 @@ use Rattle.xt_lex.proofs.Sound.{plain_ncname, plain_ascii}
 use Rattle.xt_lex.proofs.Spelling.{encode_small, list_all_weaker}
 use Rattle.xt_lex.proofs.Utf8.{ascii}
 
-plain_is_ncname : (name : List ℕ) → is_plain_name name ≡ true → IsNCName name
+pub plain_is_ncname : (name : List ℕ) → is_plain_name name ≡ true → IsNCName name
 plain_is_ncname name h = ncname_from_test name (ascii name (plain_ascii name h)) (plain_ncname name h)
 
 -- a reference to a predefined entity is an entity reference

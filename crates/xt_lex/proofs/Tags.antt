@@ -6,7 +6,7 @@ use Rattle.std.specs.Str.{IsUtf8}
 use Rattle.xt_spec.specs.Char.{is_space}
 use Rattle.xt_spec.specs.Name.{IsQName}
 use Rattle.xt_spec.specs.Tag.{IsBlank, Attribute, attribute_text, IsAttribute, Tag, IsTag}
-use Rattle.xt_spec.specs.Token.{TokenKind, start_tag, empty_tag, end_tag, char_data, char_ref, entity_ref, Spells}
+use Rattle.xt_spec.specs.Token.{TokenKind, start_tag, empty_tag, end_tag, char_data, char_ref, entity_ref, cdata_section, comment, pi, declaration, doctype, Spells}
 use Rattle.xt_lex.specs.NameTest.{is_name_byte}
 use Rattle.xt_lex.specs.Scan.{◌>>=◌, run, behind, after, after_qname, after_space, attribute, many, open_end, open_tag, closing_tag, maybe, markup}
 use Rattle.xt_lex.proofs.Attributes.{attribute_takes, attribute_again, attribute_shrinks, attribute_stops, attribute_begins, utf8_rest}
@@ -210,6 +210,11 @@ no_markup_ref k (inr e) (inl s) = absurd (cc)
 no_markup_ref k (inr e) (inr (inl s)) = absurd (cc)
 no_markup_ref k (inr e) (inr (inr s)) = absurd (cc)
 
+pub no_markup_other : (k : TokenKind) → (k ≡ start_tag → ⊥) → (k ≡ empty_tag → ⊥) → (k ≡ end_tag → ⊥) → IsMarkup k → ⊥
+no_markup_other k a b c (inl e) = a e
+no_markup_other k a b c (inr (inl e)) = b e
+no_markup_other k a b c (inr (inr e)) = c e
+
 pub markup_again : (t r : List ℕ) (k : TokenKind) → Spells k t → IsMarkup k → markup (t ++ r) ≡ Some (k, r)
 unfolding markup
 markup_again t r start_tag (tag, is, e) m =
@@ -229,3 +234,8 @@ markup_again t r end_tag (name, q, (blank, b, e)) m =
 markup_again t r char_data s m = absurd (no_markup char_data refl m)
 markup_again t r char_ref s m = absurd (no_markup_ref char_ref (inl refl) m)
 markup_again t r entity_ref s m = absurd (no_markup_ref entity_ref (inr refl) m)
+markup_again t r cdata_section s m = absurd (no_markup_other cdata_section (λ e. cc) (λ e. cc) (λ e. cc) m)
+markup_again t r comment s m = absurd (no_markup_other comment (λ e. cc) (λ e. cc) (λ e. cc) m)
+markup_again t r pi s m = absurd (no_markup_other pi (λ e. cc) (λ e. cc) (λ e. cc) m)
+markup_again t r declaration s m = absurd (no_markup_other declaration (λ e. cc) (λ e. cc) (λ e. cc) m)
+markup_again t r doctype s m = absurd (no_markup_other doctype (λ e. cc) (λ e. cc) (λ e. cc) m)

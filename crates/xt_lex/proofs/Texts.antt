@@ -7,10 +7,14 @@ use Rattle.std.specs.Str.{IsUtf8, IsCharBoundary}
 use lib.Utf8.{scalars}
 use Rattle.xt_spec.specs.Name.{IsQName}
 use Rattle.xt_spec.specs.Tag.{IsBlank, attribute_text, Tag, tag_text, IsTag}
-use Rattle.xt_spec.specs.Token.{TokenKind, start_tag, empty_tag, end_tag, char_data, char_ref, entity_ref, IsPlain, Spells, IsFront}
+use Rattle.xt_spec.specs.Token.{TokenKind, start_tag, empty_tag, end_tag, char_data, char_ref, entity_ref, cdata_section, comment, pi, declaration, doctype, IsPlain, Spells, IsFront}
 use Rattle.xt_lex.proofs.Attributes.{parts_utf8}
+use Rattle.xt_lex.proofs.Cuts.{chars_utf8}
+use Rattle.xt_lex.proofs.Declarations.{declaration_utf8}
+use Rattle.xt_lex.proofs.Doctypes.{doctype_utf8}
+use Rattle.xt_lex.proofs.Instructions.{data_utf8}
 use Rattle.xt_lex.proofs.References.{IsFound, found_spelt}
-use Rattle.xt_lex.proofs.Utf8.{char_scalar, blank_utf8, ascii, qname_utf8}
+use Rattle.xt_lex.proofs.Utf8.{char_scalar, blank_utf8, ascii, ncname_utf8, qname_utf8}
 use Rattle.xt_lex.proofs.Values.{attr_scalars}
 
 plain_scalars : (cs : List ℕ) → AllByRecursion IsPlain cs → scalars cs ≡ true
@@ -29,6 +33,9 @@ end_utf8 name blank text q b e =
 found_utf8 : (k : TokenKind) (t : List ℕ) → IsFound k t → IsUtf8 t
 found_utf8 k t f = let spelt = found_spelt k t f in (spelt.0, (attr_scalars spelt.0 spelt.2, spelt.1))
 
+bracketed_utf8 : (front inner ending : List ℕ) → IsUtf8 front → IsUtf8 inner → IsUtf8 ending → IsUtf8 (front ++ inner ++ ending)
+bracketed_utf8 front inner ending f i e = IsUtf8-append (front ++ inner) ending (IsUtf8-append front inner f i) e
+
 pub spells_utf8 : (kind : TokenKind) (t : List ℕ) → Spells kind t → IsUtf8 t
 spells_utf8 start_tag t (tag, is, e) = rw e (tag_utf8 tag (codes ">") is (ascii (codes ">") refl))
 spells_utf8 empty_tag t (tag, is, e) = rw e (tag_utf8 tag (codes "/>") is (ascii (codes "/>") refl))
@@ -36,6 +43,14 @@ spells_utf8 end_tag t (name, q, (blank, b, e)) = end_utf8 name blank t q b e
 spells_utf8 char_data t (cs, some, plain, e, closes) = (cs, (plain_scalars cs plain, sym e))
 spells_utf8 char_ref t h = found_utf8 char_ref t (inl (refl, h))
 spells_utf8 entity_ref t h = found_utf8 entity_ref t (inr (refl, h))
+spells_utf8 cdata_section t (inner, chars_, lacks_, e) =
+    rw e (bracketed_utf8 (codes "<![CDATA[") inner (codes "]]>") (ascii (codes "<![CDATA[") refl) (chars_utf8 inner chars_) (ascii (codes "]]>") refl))
+spells_utf8 comment t (inner, chars_, lacks_, e) =
+    rw e (bracketed_utf8 (codes "<!--") inner (codes "-->") (ascii (codes "<!--") refl) (chars_utf8 inner chars_) (ascii (codes "-->") refl))
+spells_utf8 pi t (target, inner, name, is, e) =
+    rw e (bracketed_utf8 (codes "<?" ++ target) inner (codes "?>") (IsUtf8-append (codes "<?") target (ascii (codes "<?") refl) (ncname_utf8 target name.0)) (data_utf8 inner is) (ascii (codes "?>") refl))
+spells_utf8 declaration t (d, is) = declaration_utf8 d t is
+spells_utf8 doctype t is = doctype_utf8 t is
 
 pub front_boundary : (s : List ℕ) (k : TokenKind) (n : ℕ) → IsUtf8 s → IsFront k n s → IsCharBoundary s n
 front_boundary s k n u f = IsCharBoundary-from_take s n u f.within (spells_utf8 k (take n s) f.spelled)

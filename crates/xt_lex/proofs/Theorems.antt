@@ -11,9 +11,13 @@
 --   stands_unique        a reference stands for at most one character
 --   stands_spells        what stands for a character spells a token; predefined_entity: an entity reference, if by its name
 --   space_spells         white space is character data
+--   subset_unique        a text has at most one front that is a subset with its `]` behind it
+--   declaration_unique   a declaration declares one thing
 --   names_no_entity      a character reference is no entity reference
+pub use Rattle.xt_lex.proofs.Declarations.{declaration_unique}
 pub use Rattle.xt_lex.proofs.Fronts.{front_some}
 pub use Rattle.xt_lex.proofs.Longest.{token_longest}
+pub use Rattle.xt_lex.proofs.Subsets.{subset_unique}
 pub use Rattle.xt_lex.proofs.Spelled.{predefined_entity, stands_spells, space_spells}
 pub use Rattle.xt_lex.proofs.Texts.{spells_utf8, front_boundary}
 pub use Rattle.xt_lex.proofs.Unique.{attribute_unique, no_attribute_at_end, name_unique, tag_name_ends, end_tag_name_ends, tag_unique, stands_unique, names_no_entity}

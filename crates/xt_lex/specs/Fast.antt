@@ -1,5 +1,5 @@
 -- Tests of bytes that say enough, and not all: where they pass, the exact ones do.
-use Rattle.std.specs.Prelude.{ℕ, Bool, false, ◌||◌, ◌&&◌, ◌==◌, not, nat_le, List, [], ◌∷◌}
+use Rattle.std.specs.Prelude.{nat_lt, ℕ, Bool, false, ◌||◌, ◌&&◌, ◌==◌, not, nat_le, List, [], ◌∷◌}
 use Rattle.std.specs.List.{list_all}
 use Rattle.xt_spec.specs.Char.{is_within}
 
@@ -23,3 +23,8 @@ is_plain_byte b = is_plain_start b || is_within 0x30 0x39 b || b == 0x2D || b ==
 abbrev pub is_plain_name : List ℕ → Bool
 is_plain_name [] = false
 is_plain_name (b ∷ bs) = is_plain_start b && list_all is_plain_byte bs
+
+-- a text that may end another: ASCII, of one or more bytes
+abbrev pub is_ending : List ℕ → Bool
+is_ending [] = false
+is_ending (b ∷ bs) = nat_lt b 128 && list_all (λ b. nat_lt b 128) bs

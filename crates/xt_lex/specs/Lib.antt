@@ -4,3 +4,4 @@ pub mod Kinds
 pub mod Scan
 pub mod Data
 pub mod Place
+pub mod DeclaredValues

@@ -1,11 +1,14 @@
 -- Reading from the front of a text: what each step leaves, or none. A text is the list of its bytes.
-use Rattle.std.specs.Prelude.{zero, suc, ◌||◌, ◌&&◌, ℕ, length, not, Bool, true, false, ◌==◌, List, [], ◌∷◌, Option, Some, None, if◌then◌else◌}
+use Rattle.std.specs.Prelude.{zero, suc, ◌||◌, ◌&&◌, ℕ, length, not, Bool, true, false, ◌==◌, List, [], ◌∷◌, codes, bytes_eq, Option, Some, None, if◌then◌else◌}
 use Rattle.std.specs.Str.{chars}
 use Rattle.std.specs.List.{list_all}
 use Rattle.xt_spec.specs.Char.{is_space, is_char}
 use Rattle.xt_spec.specs.Name.{are_ncname_chars}
 use Rattle.xt_spec.specs.Reference.{is_decimal_digit, is_hexadecimal_digit, number_behind}
-use Rattle.xt_spec.specs.Token.{TokenKind, start_tag, empty_tag, end_tag, char_ref, entity_ref}
+use Rattle.xt_spec.specs.Declaration.{Declaration, is_version_num, is_enc_name, is_yes_or_no, is_xml_declaration, is_text_declaration}
+use Rattle.xt_spec.specs.Doctype.{is_pubid_char, is_quote_or_end}
+use Rattle.xt_spec.specs.Markup.{is_reserved}
+use Rattle.xt_spec.specs.Token.{TokenKind, start_tag, empty_tag, end_tag, char_ref, entity_ref, cdata_section, comment, pi, declaration, doctype}
 use Rattle.xt_lex.specs.NameTest.{is_name_byte, qname}
 
 infixl 10 ◌>>=◌
@@ -137,11 +140,198 @@ open_tag text = after_qname text >>= λ s. open_end (behind is_space (many attri
 unfoldable pub closing_tag : List ℕ → Option (List ℕ)
 closing_tag text = after_qname text >>= λ s. after 0x3E (behind is_space s)
 
--- a token that begins with `<`
+-- a tag
 unfoldable pub markup : List ℕ → Option (TokenKind × List ℕ)
 markup text = after 0x3C text >>= λ s. maybe (open_tag s) (λ e. closing_tag e >>= λ r. Some (end_tag, r)) (after 0x2F s)
+
+-- what follows the needle at the front
+abbrev pub after_all : List ℕ → List ℕ → Option (List ℕ)
+after_all [] text = Some text
+after_all (c ∷ needle) [] = None
+after_all (c ∷ needle) (b ∷ text) = if b == c then after_all needle text else None
+
+-- one byte more before a cut
+abbrev pub longer_by : ℕ → Option (List ℕ × List ℕ) → Option (List ℕ × List ℕ)
+longer_by b None = None
+longer_by b (Some x) = Some (b ∷ x.0, x.1)
+
+-- the cut of a text that begins with the byte, from that behind it, and what follows the needle if it stands in front
+abbrev pub cut_either : ℕ → Option (List ℕ × List ℕ) → Option (List ℕ) → Option (List ℕ × List ℕ)
+cut_either b later None = longer_by b later
+cut_either b later (Some r) = Some ([], r)
+
+-- what stands before the first place where the needle stands, and what follows it there
+abbrev pub cut : List ℕ → List ℕ → Option (List ℕ × List ℕ)
+cut needle [] = None
+cut needle (b ∷ bs) = cut_either b (cut needle bs) (after_all needle (b ∷ bs))
+
+abbrev pub are_chars : List ℕ → Bool
+are_chars text = list_all is_char (chars text)
+
+-- what follows Chars and the needle that ends them, where it first stands
+unfoldable pub after_chars : List ℕ → List ℕ → Option (List ℕ)
+after_chars needle text = cut needle text >>= λ x. if are_chars x.0 then Some x.1 else None
+
+-- behind `<![CDATA[`
+abbrev pub cdata_step : List ℕ → Option (TokenKind × List ℕ)
+cdata_step text = after_chars (codes "]]>") text >>= λ r. Some (cdata_section, r)
+
+-- behind `<!--`
+abbrev pub comment_step : List ℕ → Option (TokenKind × List ℕ)
+comment_step text = after_chars (codes "--") text >>= λ s. after 0x3E s >>= λ r. Some (comment, r)
+
+-- what stands before the second quote, and what follows it
+abbrev pub quoted_by : ℕ → List ℕ → Option (List ℕ × List ℕ)
+quoted_by q text = after q (behind (λ b. not (b == q)) text) >>= λ r. Some (run (λ b. not (b == q)) text, r)
+
+-- what stands between quotes, and what follows them
+abbrev pub quoted : List ℕ → Option (List ℕ × List ℕ)
+quoted [] = None
+quoted (b ∷ bs) = if b == 0x22 || b == 0x27 then quoted_by b bs else None
+
+-- behind a literal of Chars, and of PubidChars
+abbrev pub after_system_literal : List ℕ → Option (List ℕ)
+after_system_literal text = quoted text >>= λ x. if are_chars x.0 then Some x.1 else None
+
+abbrev pub after_pubid_literal : List ℕ → Option (List ℕ)
+after_pubid_literal text = quoted text >>= λ x. if list_all is_pubid_char x.0 then Some x.1 else None
+
+-- behind `SYSTEM`, and behind `PUBLIC`
+abbrev pub after_system : List ℕ → Option (List ℕ)
+after_system text = after_space text >>= after_system_literal
+
+abbrev pub after_public : List ℕ → Option (List ℕ)
+after_public text = after_space text >>= λ p. after_pubid_literal p >>= after_system
+
+-- what follows an external identifier
+unfoldable pub after_external_id : List ℕ → Option (List ℕ)
+after_external_id text = maybe (after_all (codes "PUBLIC") text >>= after_public) after_system (after_all (codes "SYSTEM") text)
+
+abbrev pub spaced_external_id : List ℕ → Option (List ℕ)
+spaced_external_id text = after_space text >>= after_external_id
+
+-- what follows S and an external identifier, where they stand
+unfoldable pub after_external : List ℕ → List ℕ
+after_external text = maybe text (λ r. r) (spaced_external_id text)
+
+-- what follows the needle where it first stands
+abbrev pub after_first : List ℕ → List ℕ → Option (List ℕ)
+after_first needle text = cut needle text >>= λ x. Some x.1
+
+-- behind a `<` of a subset: what follows a comment, a PI, or the byte alone
+unfoldable pub after_less : List ℕ → Option (List ℕ)
+after_less text = maybe (maybe (Some text) (after_first (codes "?>")) (after 0x3F text)) (after_first (codes "-->")) (after_all (codes "!--") text)
+
+-- a literal, or what begins with `<`
+unfoldable pub after_marked : List ℕ → Option (List ℕ)
+after_marked text = maybe (quoted text >>= λ x. Some x.1) after_less (after 0x3C text)
+
+-- a byte of a subset that begins nothing
+abbrev pub is_plain_in_subset : ℕ → Bool
+is_plain_in_subset b = not (is_quote_or_end b || b == 0x3C)
+
+-- one part of a subset
+abbrev pub after_subset_part : List ℕ → Option (List ℕ)
+after_subset_part [] = None
+after_subset_part (b ∷ bs) = if is_plain_in_subset b then Some bs else after_marked (b ∷ bs)
+
+-- behind `[`: what follows the brackets and optional white space
+abbrev pub after_subset : List ℕ → Option (List ℕ)
+after_subset text = after 0x5D (many after_subset_part text) >>= λ r. Some (behind is_space r)
+
+-- what follows brackets, where they stand
+unfoldable pub after_brackets : List ℕ → Option (List ℕ)
+after_brackets text = maybe (Some text) after_subset (after 0x5B text)
+
+-- behind `<!DOCTYPE`
+unfoldable pub doctype_step : List ℕ → Option (TokenKind × List ℕ)
+doctype_step text =
+    after_space text >>= λ n. after_qname n >>= λ e. after_brackets (behind is_space (after_external e)) >>= λ c. after 0x3E c
+    >>= λ r. Some (doctype, r)
+
+-- behind `<!`, where no `--` stands
+unfoldable pub declared_section : List ℕ → Option (TokenKind × List ℕ)
+declared_section text = maybe (after_all (codes "DOCTYPE") text >>= doctype_step) cdata_step (after_all (codes "[CDATA[") text)
+
+-- behind `<!`
+unfoldable pub declared : List ℕ → Option (TokenKind × List ℕ)
+declared text = maybe (declared_section text) comment_step (after_all (codes "--") text)
+
+-- what follows the target of a PI
+abbrev pub after_target : List ℕ → Option (List ℕ)
+after_target text =
+    if are_ncname_chars (chars (run is_name_byte text)) && not (is_reserved (run is_name_byte text)) then Some (behind is_name_byte text) else None
+
+-- behind the target: what follows the end
+unfoldable pub after_data : List ℕ → Option (List ℕ)
+after_data text = maybe (after_space text >>= λ d. after_chars (codes "?>") text) Some (after_all (codes "?>") text)
+
+-- behind `<?`
+abbrev pub instruction : List ℕ → Option (TokenKind × List ℕ)
+instruction text = after_target text >>= λ s. after_data s >>= λ r. Some (pi, r)
+
+-- behind S, the word and Eq: the value in quotes, and what follows it
+unfoldable pub word_value : List ℕ → List ℕ → Option (List ℕ × List ℕ)
+word_value word text =
+    after_space text >>= λ n. after_all word n >>= λ e. after 0x3D (behind is_space e) >>= λ v. quoted (behind is_space v)
+
+-- .. if it passes the test
+abbrev pub tested : (List ℕ → Bool) → Option (List ℕ × List ℕ) → Option (List ℕ × List ℕ)
+tested test None = None
+tested test (Some x) = if test x.0 then Some x else None
+
+abbrev pub optional : List ℕ → Option (List ℕ × List ℕ) → Option (List ℕ) × List ℕ
+optional text None = (None, text)
+optional text (Some x) = (Some x.0, x.1)
+
+-- a part of a declaration, where it is written, and what follows it
+abbrev pub part : List ℕ → (List ℕ → Bool) → List ℕ → Option (List ℕ) × List ℕ
+part word test text = optional text (tested test (word_value word text))
+
+abbrev pub version_part : List ℕ → Option (List ℕ) × List ℕ
+version_part text = part (codes "version") is_version_num text
+
+abbrev pub encoding_part : List ℕ → Option (List ℕ) × List ℕ
+encoding_part text = part (codes "encoding") is_enc_name text
+
+abbrev pub standalone_part : List ℕ → Option (List ℕ) × List ℕ
+standalone_part text = part (codes "standalone") is_yes_or_no text
+
+-- the declaration, if it has one of the two forms, and its end follows
+abbrev pub formed : Declaration → Option (List ℕ) → Option (Declaration × List ℕ)
+formed d None = None
+formed d (Some r) = if is_xml_declaration d || is_text_declaration d then Some (d, r) else None
+
+abbrev pub declaration_by : Option (List ℕ) × List ℕ → Option (List ℕ) × List ℕ → Option (List ℕ) × List ℕ → Option (Declaration × List ℕ)
+declaration_by v e s = formed (record { version = v.0; encoding = e.0; standalone = s.0 }) (after_all (codes "?>") (behind is_space s.1))
+
+-- behind `<?xml`
+unfoldable pub declaration_step : List ℕ → Option (Declaration × List ℕ)
+declaration_step text =
+    declaration_by (version_part text) (encoding_part (version_part text).1) (standalone_part (encoding_part (version_part text).1).1)
+
+abbrev pub all_read : Declaration → List ℕ → Option Declaration
+all_read d [] = Some d
+all_read d (b ∷ bs) = None
+
+-- of a declaration that is the whole text
+unfoldable pub whole_declaration : List ℕ → Option Declaration
+whole_declaration text = after_all (codes "<?xml") text >>= λ r. declaration_step r >>= λ x. all_read x.0 x.1
+
+-- behind `<?`: a declaration, where the target is `xml`; else a PI
+unfoldable pub instructed : List ℕ → Option (TokenKind × List ℕ)
+instructed text =
+    if bytes_eq (run is_name_byte text) (codes "xml") then (declaration_step (behind is_name_byte text) >>= λ x. Some (declaration, x.1)) else instruction text
+
+-- a token that begins with `<`, and not with `<!`
+unfoldable pub undeclared : List ℕ → Option (TokenKind × List ℕ)
+undeclared text = maybe (markup text) instructed (after_all (codes "<?") text)
+
+-- a token that begins with `<`
+unfoldable pub angled : List ℕ → Option (TokenKind × List ℕ)
+angled text = maybe (undeclared text) declared (after_all (codes "<!") text)
 
 -- a token that begins with `<` or `&`
 abbrev pub delimited : List ℕ → Option (TokenKind × List ℕ)
 delimited [] = None
-delimited (b ∷ bs) = if b == 0x3C then markup (b ∷ bs) else (if b == 0x26 then reference (b ∷ bs) else None)
+delimited (b ∷ bs) = if b == 0x3C then angled (b ∷ bs) else (if b == 0x26 then reference (b ∷ bs) else None)

@@ -94,7 +94,7 @@ fn value_len(quote: u8, bytes: &[u8]) -> usize
 }
 
 /// The front without the quote, and what follows it.
-fn split_value(quote: u8, text: &str) -> (&str, &str)
+pub(crate) fn split_value(quote: u8, text: &str) -> (&str, &str)
     requires { quote < 128 }
     ensures value { result.0.now ≡ run (λ b. not (b == quote)) text.now }
     ensures rest { result.1.now ≡ behind (λ b. not (b == quote)) text.now }

@@ -3,6 +3,7 @@
 ghost use Rattle.std.specs.Prelude.{◌≡◌};
 ghost use Rattle.std.specs.List.{list_all};
 ghost use Rattle.xt_lex.specs.Fast.{is_sound_byte};
+ghost use Rattle.xt_lex.specs.Scan.{are_chars};
 ghost use Rattle.xt_lex.specs.Data.{AreFirstChars, IsFirstDelimiter, IsFirstClose, IsFirstData};
 
 use crate::chars::{is_char, is_sound_byte};
@@ -17,6 +18,19 @@ fn are_sound_bytes(bytes: &[u8]) -> bool
         sound &= is_sound_byte(*b);
     }
     sound
+}
+
+fn has_chars(text: &str) -> bool
+    ensures { result ≡ are_chars text.now }
+{
+    text.chars().all(is_char)
+}
+
+/// Whether the characters are Chars.
+pub(crate) fn are_chars(text: &str) -> bool
+    ensures { result ≡ are_chars text.now }
+{
+    are_sound_bytes(text.as_bytes()) || has_chars(text)
 }
 
 /// How many bytes at the front are Chars.

@@ -1,14 +1,16 @@
 //! Steps from the front of a text: each gives what follows it.
 
-ghost use Rattle.std.specs.Prelude.{not, ◌==◌, ◌≡◌, ◌<◌};
+ghost use Rattle.std.specs.Prelude.{not, ◌==◌, ◌≡◌, ◌<◌, true, option_map};
 ghost use Rattle.std.specs.List.{prefix_len};
 ghost use Rattle.std.specs.Option.{option_copied};
 ghost use Rattle.xt_spec.specs.Char.{is_space};
-ghost use Rattle.xt_lex.specs.Scan.{after_space, run, behind, after, after_qname, after_ncname};
+ghost use Rattle.xt_lex.specs.Fast.{is_ending};
+ghost use Rattle.xt_lex.specs.Scan.{after_space, run, behind, after, after_all, cut, after_qname, after_ncname};
 ghost use Rattle.xt_lex.specs.NameTest.{is_name_byte};
 
 use crate::chars::{is_name_byte, is_space};
 use crate::names::{is_ncname, is_qname};
+use memchr::memmem;
 
 /// What follows the character, an ASCII one.
 pub(crate) fn after(c: char, text: &str) -> Option<&str>
@@ -16,6 +18,24 @@ pub(crate) fn after(c: char, text: &str) -> Option<&str>
     ensures { option_copied result ≡ after c text.now }
 {
     text.strip_prefix(c)
+}
+
+/// What follows the needle at the front.
+pub(crate) fn after_all<'a>(needle: &str, text: &'a str) -> Option<&'a str>
+    ensures { option_copied result ≡ after_all needle.now text.now }
+{
+    text.strip_prefix(needle)
+}
+
+/// What stands before the first place where the needle stands, and what follows it there.
+pub(crate) fn cut<'a>(needle: &str, text: &'a str) -> Option<(&'a str, &'a str)>
+    requires { is_ending needle.now ≡ true }
+    ensures { option_map (λ x. (x.0.now, x.1.now)) result ≡ cut needle.now text.now }
+{
+    match memmem::find(text.as_bytes(), needle.as_bytes()) {
+        Some(at) => Some((&text[..at], &text[at + needle.len()..])),
+        None => None,
+    }
 }
 
 fn blank_len(bytes: &[u8]) -> usize

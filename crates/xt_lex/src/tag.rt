@@ -51,7 +51,7 @@ fn end_tag(text: &str) -> Option<&str>
     after('>', after_blank(behind_name))
 }
 
-/// A token that begins with `<`, and what follows it.
+/// A tag, and what follows it.
 #[tactic(auto, unfolding(crate::specs::Scan::markup))]
 pub(crate) fn markup(text: &str) -> Option<(Kind, &str)>
     ensures { option_map (λ x. (kind_of x.0, x.1.now)) result ≡ markup text.now }

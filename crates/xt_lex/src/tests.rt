@@ -2,7 +2,7 @@
 
 use crate::{
     Kind, NotUtf8, is_char, is_name, is_ncname, is_qname, name_at, next_attribute, next_token,
-    referenced_char, text_of,
+    read_declaration, referenced_char, text_of,
 };
 
 #[test]
@@ -69,6 +69,96 @@ fn the_longest_token_is_taken(rt: HostRuntime) {
     ] {
         assert_eq!(rt; token(text), found, "at {text}");
     }
+}
+
+#[test]
+fn markup_is_a_token(rt: HostRuntime) {
+    for (text, found) in [
+        ("<![CDATA[]]>", Some((Kind::CData, 12))),
+        ("<![CDATA[<a>&]]]>]]>", Some((Kind::CData, 17))),
+        ("<![CDATA[a]]", None),
+        ("<![cdata[a]]>", None),
+        ("<![CDATA[\u{1}]]>", None),
+        ("<!---->", Some((Kind::Comment, 7))),
+        ("<!-- a-b <c> -->-->", Some((Kind::Comment, 16))),
+        ("<!-- a --->", None),
+        ("<!-- a -- b -->", None),
+        ("<!-->", None),
+        ("<!-- \u{fffe} -->", None),
+        ("<?a?>b?>", Some((Kind::Pi, 5))),
+        ("<?xml-stylesheet href='a' ?>", Some((Kind::Pi, 28))),
+        ("<?a b??>", Some((Kind::Pi, 8))),
+        ("<?a?b?>", None),
+        ("<?a b", None),
+        ("<?a:b c?>", None),
+        ("<? a?>", None),
+        ("<?XmL a?>", None),
+        ("<?a \u{1}?>", None),
+        ("<?xml version='1.0'?>", Some((Kind::Decl, 21))),
+        (
+            "<?xml version = \"1.17\" encoding='utf-8' standalone='no' ?><",
+            Some((Kind::Decl, 58)),
+        ),
+        ("<?xml encoding='UTF-8'?>", Some((Kind::Decl, 24))),
+        ("<?xml encoding='UTF-8' standalone='no'?>", None),
+        ("<?xml version='1.0' standalone='maybe'?>", None),
+        ("<?xml version='2.0'?>", None),
+        ("<?xml version='1.0\"?>", None),
+        ("<?xml version='1.0'encoding='UTF-8'?>", None),
+        ("<?xml encoding='UTF-8' version='1.0'?>", None),
+        ("<?xml ?>", None),
+        ("<?XML version='1.0'?>", None),
+        ("<!DOCTYPE a>b", Some((Kind::Doctype, 12))),
+        ("<!DOCTYPE a:b SYSTEM 'é' >", Some((Kind::Doctype, 27))),
+        (
+            "<!DOCTYPE a PUBLIC \"-//b//c\" \"d.dtd\">",
+            Some((Kind::Doctype, 37)),
+        ),
+        (
+            "<!DOCTYPE a [<!ENTITY b \"]>\">]>",
+            Some((Kind::Doctype, 31)),
+        ),
+        ("<!DOCTYPE a[<!-- ]' --><? ]\" ?>'<!--' ] ]>", None),
+        (
+            "<!DOCTYPE a[<!-- ]' --><? ]\" ?>'<!--'] >]>",
+            Some((Kind::Doctype, 40)),
+        ),
+        ("<!DOCTYPE a [\u{1}<!é]\n>", Some((Kind::Doctype, 21))),
+        ("<!DOCTYPE a ['] >", None),
+        ("<!DOCTYPE a [<!-- ]>", None),
+        ("<!DOCTYPE a SYSTEM '\u{1}'>", None),
+        ("<!DOCTYPE a SYSTEM>", None),
+        ("<!DOCTYPE a PUBLIC 'b'>", None),
+        ("<!DOCTYPE a PUBLIC '{' 'c'>", None),
+        ("<!DOCTYPE a []b>", None),
+        ("<!DOCTYPE>", None),
+        ("<!doctype a>", None),
+    ] {
+        assert_eq!(rt; token(text), found, "at {text}");
+    }
+}
+
+#[test]
+fn declarations_declare(rt: HostRuntime) {
+    for (text, form, utf8) in [
+        ("<?xml version='1.0'?>", (true, false), true),
+        ("<?xml version='1.0' encoding='Utf-8'?>", (true, true), true),
+        ("<?xml encoding='ISO-8859-1'?>", (false, true), false),
+        (
+            "<?xml version='1.0' encoding='UTF-8' standalone='yes'?>",
+            (true, false),
+            true,
+        ),
+    ] {
+        assert!(rt;
+            read_declaration(text).is_some_and(|d| {
+                (d.is_xml_declaration(), d.is_text_declaration()) == form
+                    && d.is_utf8_or_absent() == utf8
+            }),
+            "at {text}"
+        );
+    }
+    assert!(rt; read_declaration("<?xml version='1.0'?> ").is_none());
 }
 
 #[test]

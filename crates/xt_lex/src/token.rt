@@ -8,8 +8,8 @@ ghost use Rattle.xt_lex.specs.Kinds.{kind_of};
 ghost use Rattle.xt_lex.specs.Scan.{delimited};
 
 use crate::data::data_len;
+use crate::markup::angled;
 use crate::reference::reference;
-use crate::tag::markup;
 
 /// Where a part of a text begins and ends, in bytes.
 #[derive(Clone, Copy, Debug, PartialEq, Eq)]
@@ -32,6 +32,16 @@ pub enum Kind {
     CharRef,
     /// `&amp;`
     EntRef,
+    /// `<![CDATA[a < b]]>`
+    CData,
+    /// `<!-- a -->`
+    Comment,
+    /// `<?target data?>`
+    Pi,
+    /// `<?xml version="1.0"?>` or `<?xml encoding="UTF-8"?>`
+    Decl,
+    /// `<!DOCTYPE a SYSTEM "a.dtd" [<!ENTITY b "c">]>`
+    Doctype,
 }
 
 #[derive(Clone, Copy, Debug, PartialEq, Eq)]
@@ -57,7 +67,7 @@ fn delimited(text: &str) -> Option<(Kind, &str)>
     ensures { option_map (λ x. (kind_of x.0, x.1.now)) result ≡ delimited text.now }
 {
     match text.as_bytes() {
-        [b'<', ..] => markup(text),
+        [b'<', ..] => angled(text),
         [b'&', ..] => reference(text),
         _ => None,
     }

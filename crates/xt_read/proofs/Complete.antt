@@ -10,12 +10,14 @@ use Rattle.xt_lex.proofs.Spelling.{list_all_behind}
 use Rattle.xt_spec.specs.Char.{is_space}
 use Rattle.xt_spec.specs.Reference.{IsEntityRef, IsPredefined, StandsFor}
 use Rattle.xt_spec.specs.Tag.{Tag, tag_text, IsEndTag, IsSpace}
-use Rattle.xt_spec.specs.Token.{TokenKind, start_tag, empty_tag, end_tag, char_data, char_ref, entity_ref, Spells, IsPlain, HoldsNoClose}
+use Rattle.xt_spec.specs.Markup.{IsComment, IsPi}
+use Rattle.xt_spec.specs.Doctype.{IsDoctype}
+use Rattle.xt_spec.specs.Token.{TokenKind, start_tag, empty_tag, end_tag, char_data, char_ref, entity_ref, cdata_section, comment, pi, doctype, Spells, IsPlain, HoldsNoClose}
 use Rattle.xt_spec.specs.Tree.{Items, nil, element, leaf, text_item, reference_item, comment_item, pi_item, gap, Item, element_item, leaf_item, items_of, append, source_text, close_text, begins_with}
-use Rattle.xt_spec.specs.Text.{TextPart, data_part, reference_part, part_text, parts_text, AreTextParts, IsTextItem, begins_with_data}
-use Rattle.xt_spec.specs.Reading.{are_distinct, attribute_names, tag_ending, IsElementAt, IsContent, IsTop, document, IsReading}
+use Rattle.xt_spec.specs.Text.{TextPart, data_part, reference_part, section_part, part_text, parts_text, AreTextParts, IsTextItem, begins_with_data}
+use Rattle.xt_spec.specs.Reading.{are_distinct, attribute_names, tag_ending, IsElementAt, IsContent, Stage, before_doctype, before_root, behind_root, begins_with_space, Leads}
 use Rattle.xt_lex.specs.Place.{Follows}
-use Rattle.xt_read.specs.Run.{Tok, start_tok, empty_tok, end_tok, data_tok, reference_tok, other_tok, tok_text, IsOfKind, IsToken, OpenElement, State, begin, with_text, longer, is_top, has_room, closed, step, Reads, done, more, IsRead}
+use Rattle.xt_read.specs.Run.{Body, document_body, content_body, IsBody, data_piece, part_piece, reference_piece, comment_piece, pi_piece, doctype_piece, Tok, start_tok, empty_tok, end_tok, piece_tok, tok_text, IsOfKind, IsToken, OpenElement, State, begin, with_text, longer, is_top, is_content, begins_root, begins_document, behind_element, has_room, with_item, with_more, with_doctype, closed, step, Reads, done, more, has_ended, IsRead}
 use Rattle.xt_lex.proofs.Theorems.{token_longest}
 use Rattle.xt_read.proofs.ItemLemmas as items
 
@@ -57,8 +59,18 @@ longer-longer : (text : Option (List ℕ)) (a b : List ℕ) → longer (Some (lo
 longer-longer None a b = refl
 longer-longer (Some t) a b = append_assoc t a b
 
-abbrev in_element : OpenElement → List OpenElement → List Item → Option (List ℕ) → State
-in_element e es items text = record { opened = e ∷ es; items = items; text = text; came = true }
+abbrev at : List OpenElement → Option Stage → List Item → Option (List ℕ) → State
+at opened stage items text = record { opened = opened; items = items; text = text; stage = stage }
+
+-- text may stand here
+abbrev IsIn : List OpenElement → Option Stage → Type 0
+IsIn opened stage = (not (is_top opened) || is_content stage) ≡ true
+
+when_true : {A : Type 0} (b : Bool) (x y : A) → b ≡ true → (if b then x else y) ≡ x
+when_true b x y is = rw is refl
+
+when_false : {A : Type 0} (b : Bool) (x y : A) → b ≡ false → (if b then x else y) ≡ y
+when_false b x y is = rw is refl
 
 -- ---- text items
 
@@ -74,12 +86,17 @@ grown_is text (p ∷ q ∷ ps) some =
     grown_is (Some (longer text (part_text p))) (q ∷ ps) (λ e. let h : ◌≡◌ {A = List TextPart} (q ∷ ps) [] = e in cc)
     ∙ ap Some (longer-longer text (part_text p) (parts_text (q ∷ ps)))
 
+section_begins : (content : List ℕ) → codes "<![CDATA[" ++ content ++ codes "]]>" ≡ 0x3C ∷ (codes "![CDATA[" ++ content ++ codes "]]>")
+section_begins content = simp append_assoc
+
 follows_parts : (parts : List TextPart) (rest : List ℕ) → AreTextParts parts → begins_with_data parts ≡ false → Follows rest → Follows (parts_text parts ++ rest)
 follows_parts [] rest are none follows = follows
 follows_parts (data_part t ∷ ps) rest are none follows = absurd (let h : true ≡ false = none in cc)
 follows_parts (reference_part t c ∷ ps) rest are none follows =
     let (tail, e) = stands_begins t c are.0 in
     subst Follows (sym (append_assoc t (parts_text ps) rest)) (follows_reference t (parts_text ps ++ rest) (tail, e))
+follows_parts (section_part t content ∷ ps) rest are none follows =
+    subst Follows (sym (append_assoc t (parts_text ps) rest)) (follows_markup t _ (parts_text ps ++ rest) (are.0.2 ∙ section_begins content))
 
 spelled_lt : encode_utf8_all (codes "lt") ≡ codes "lt"
 spelled_lt = rw (encode_ascii 108 (lit< tt), encode_ascii 116 (lit< tt)) refl
@@ -103,53 +120,67 @@ predefined_is_reference t c (inr (inr (inl (e, is)))) = (codes "amp", (codes "am
 predefined_is_reference t c (inr (inr (inr (inl (e, is))))) = (codes "apos", (codes "apos", spelled_apos, refl), e)
 predefined_is_reference t c (inr (inr (inr (inr (e, is))))) = (codes "quot", (codes "quot", spelled_quot, refl), e)
 
-reference_reads : (e : OpenElement) (es : List OpenElement) (items : List Item) (text : Option (List ℕ)) (t : List ℕ) (c : ℕ) (rest : List ℕ) (u : State) → StandsFor t c
-    → Reads (in_element e es items (Some (longer text t))) rest u → Reads (in_element e es items text) (t ++ rest) u
-reference_reads e es items text t c rest u (inl names) run =
-    reads_step (in_element e es items text) (in_element e es items (Some (longer text t))) u (reference_tok t) char_ref rest (c, names) (λ k. cc) (inl refl, c, inl names) refl run
-reference_reads e es items text t c rest u (inr predefined) run =
-    reads_step (in_element e es items text) (in_element e es items (Some (longer text t))) u (reference_tok t) entity_ref rest (predefined_is_reference t c predefined) (λ k. cc) (inr refl, c, inr predefined) refl run
+reference_reads : (opened : List OpenElement) (stage : Option Stage) (items : List Item) (text : Option (List ℕ)) (t : List ℕ) (c : ℕ) (rest : List ℕ) (u : State) → IsIn opened stage → StandsFor t c
+    → Reads (at opened stage items (Some (longer text t))) rest u → Reads (at opened stage items text) (t ++ rest) u
+reference_reads opened stage items text t c rest u is_in (inl names) run =
+    reads_step (at opened stage items text) (at opened stage items (Some (longer text t))) u (piece_tok part_piece t) char_ref rest (c, names) (λ k. cc) (inr (inl refl, c, inl names)) (when_true _ _ _ is_in) run
+reference_reads opened stage items text t c rest u is_in (inr predefined) run =
+    reads_step (at opened stage items text) (at opened stage items (Some (longer text t))) u (piece_tok part_piece t) entity_ref rest (predefined_is_reference t c predefined) (λ k. cc) (inr (inr refl, c, inr predefined)) (when_true _ _ _ is_in) run
 
-parts_read : (e : OpenElement) (es : List OpenElement) (items : List Item) (text : Option (List ℕ)) (parts : List TextPart) (rest : List ℕ) (u : State) → AreTextParts parts → Follows rest
-    → Reads (in_element e es items (grown text parts)) rest u → Reads (in_element e es items text) (parts_text parts ++ rest) u
-parts_read e es items text [] rest u are follows run = run
-parts_read e es items text (data_part t ∷ ps) rest u are follows run =
-    subst (λ (r : List ℕ). Reads (in_element e es items text) r u) (sym (append_assoc t (parts_text ps) rest))
-    (reads_step (in_element e es items text) (in_element e es items (Some (longer text t))) u (data_tok t) char_data (parts_text ps ++ rest) are.0 (λ k. follows_parts ps rest are.2 are.1 follows) refl refl
-    (parts_read e es items (Some (longer text t)) ps rest u are.2 follows run))
-parts_read e es items text (reference_part t c ∷ ps) rest u are follows run =
-    subst (λ (r : List ℕ). Reads (in_element e es items text) r u) (sym (append_assoc t (parts_text ps) rest))
-    (reference_reads e es items text t c (parts_text ps ++ rest) u are.0
-    (parts_read e es items (Some (longer text t)) ps rest u are.1 follows run))
+parts_read : (opened : List OpenElement) (stage : Option Stage) (items : List Item) (text : Option (List ℕ)) (parts : List TextPart) (rest : List ℕ) (u : State) → IsIn opened stage → AreTextParts parts → Follows rest
+    → Reads (at opened stage items (grown text parts)) rest u → Reads (at opened stage items text) (parts_text parts ++ rest) u
+parts_read opened stage items text [] rest u is_in are follows run = run
+parts_read opened stage items text (data_part t ∷ ps) rest u is_in are follows run =
+    subst (λ (r : List ℕ). Reads (at opened stage items text) r u) (sym (append_assoc t (parts_text ps) rest))
+    (reads_step (at opened stage items text) (at opened stage items (Some (longer text t))) u (piece_tok data_piece t) char_data (parts_text ps ++ rest) are.0 (λ k. follows_parts ps rest are.2 are.1 follows) refl (when_true _ _ _ is_in)
+    (parts_read opened stage items (Some (longer text t)) ps rest u is_in are.2 follows run))
+parts_read opened stage items text (reference_part t c ∷ ps) rest u is_in are follows run =
+    subst (λ (r : List ℕ). Reads (at opened stage items text) r u) (sym (append_assoc t (parts_text ps) rest))
+    (reference_reads opened stage items text t c (parts_text ps ++ rest) u is_in are.0
+    (parts_read opened stage items (Some (longer text t)) ps rest u is_in are.1 follows run))
+parts_read opened stage items text (section_part t content ∷ ps) rest u is_in are follows run =
+    subst (λ (r : List ℕ). Reads (at opened stage items text) r u) (sym (append_assoc t (parts_text ps) rest))
+    (reads_step (at opened stage items text) (at opened stage items (Some (longer text t))) u (piece_tok part_piece t) cdata_section (parts_text ps ++ rest) (content, are.0.0, are.0.1, are.0.2) (λ k. cc) (inl refl) (when_true _ _ _ is_in)
+    (parts_read opened stage items (Some (longer text t)) ps rest u is_in are.1 follows run))
 
-text_reads : (e : OpenElement) (es : List OpenElement) (items : List Item) (text : Option (List ℕ)) (t rest : List ℕ) (u : State) → IsTextItem t → Follows rest
-    → Reads (in_element e es items (Some (longer text t))) rest u → Reads (in_element e es items text) (t ++ rest) u
-text_reads e es items text t rest u (parts, are, some, joined) follows run =
-    subst (λ (t : List ℕ). Reads (in_element e es items text) (t ++ rest) u) joined
-    (parts_read e es items text parts rest u are follows
-    (subst (λ (o : Option (List ℕ)). Reads (in_element e es items o) rest u) (ap (λ t. Some (longer text t)) (sym joined) ∙ sym (grown_is text parts some)) run))
+text_reads : (opened : List OpenElement) (stage : Option Stage) (items : List Item) (text : Option (List ℕ)) (t rest : List ℕ) (u : State) → IsIn opened stage → IsTextItem t → Follows rest
+    → Reads (at opened stage items (Some (longer text t))) rest u → Reads (at opened stage items text) (t ++ rest) u
+text_reads opened stage items text t rest u is_in (parts, are, some, joined) follows run =
+    subst (λ (t : List ℕ). Reads (at opened stage items text) (t ++ rest) u) joined
+    (parts_read opened stage items text parts rest u is_in are follows
+    (subst (λ (o : Option (List ℕ)). Reads (at opened stage items o) rest u) (ap (λ t. Some (longer text t)) (sym joined) ∙ sym (grown_is text parts some)) run))
 
 -- ---- what the reader has behind the items
+
+-- how far the top has come behind a gap: white space leaves it there
+abbrev behind_gap : Option Stage → List ℕ → Option Stage
+behind_gap stage t = if list_all is_space t then stage else Some before_root
+
+abbrev with_gap : State → List ℕ → State
+with_gap s t = record { opened = s.opened; items = with_text s.items s.text ++ leaf_item gap t ∷ []; text = None; stage = behind_gap s.stage t }
+
+abbrev with_element : State → List ℕ → Items → Option (List ℕ) → State
+with_element s o k c = record { opened = s.opened; items = with_text s.items s.text ++ element_item o k c ∷ []; text = None; stage = behind_element s.stage }
 
 -- the state behind the items
 abbrev fed : State → Items → State
 fed s nil = s
-fed s (element o k c rest) = fed (record { opened = s.opened; items = with_text s.items s.text ++ element_item o k c ∷ []; text = None; came = true }) rest
-fed s (leaf text_item t rest) = fed (record s { text = Some (longer s.text t) }) rest
-fed s (leaf reference_item t rest) = fed (record s { items = with_text s.items s.text ++ leaf_item reference_item t ∷ []; text = None }) rest
-fed s (leaf gap t rest) = fed (record s { items = with_text s.items s.text ++ leaf_item gap t ∷ []; text = None }) rest
-fed s (leaf comment_item t rest) = s
-fed s (leaf pi_item t rest) = s
+fed s (element o k c rest) = fed (with_element s o k c) rest
+fed s (leaf text_item t rest) = fed (with_more s t) rest
+fed s (leaf reference_item t rest) = fed (with_item s (leaf_item reference_item t)) rest
+fed s (leaf comment_item t rest) = fed (with_item s (leaf_item comment_item t)) rest
+fed s (leaf pi_item t rest) = fed (with_item s (leaf_item pi_item t)) rest
+fed s (leaf gap t rest) = fed (with_gap s t) rest
 
--- no two text items stand side by side at this level, and no comment or processing instruction
+-- no two text items stand side by side at this level
 abbrev Apart : Items → Type 0
 Apart nil = Unit {0}
 Apart (element o k c rest) = Apart rest
 Apart (leaf text_item t rest) = (begins_with text_item rest ≡ false) × Apart rest
 Apart (leaf reference_item t rest) = Apart rest
+Apart (leaf comment_item t rest) = Apart rest
+Apart (leaf pi_item t rest) = Apart rest
 Apart (leaf gap t rest) = Apart rest
-Apart (leaf comment_item t rest) = ⊥
-Apart (leaf pi_item t rest) = ⊥
 
 -- no text item goes on with the first of the items
 abbrev Clear : Option (List ℕ) → Items → Type 0
@@ -161,36 +192,46 @@ content_apart level nil is = tt
 content_apart level (element o k c rest) is = content_apart level rest is.2
 content_apart level (leaf text_item t rest) is = (is.1, content_apart level rest is.2)
 content_apart level (leaf reference_item t rest) is = content_apart level rest is.2
+content_apart level (leaf comment_item t rest) is = content_apart level rest is.1
+content_apart level (leaf pi_item t rest) is = content_apart level rest is.1
 content_apart level (leaf gap t rest) is = absurd is
-content_apart level (leaf comment_item t rest) is = is
-content_apart level (leaf pi_item t rest) is = is
 
-top_apart : (came : Bool) (items : Items) → IsTop came items → Apart items
-top_apart came nil is = tt
-top_apart came (element o k c rest) is = top_apart true rest is.3
-top_apart came (leaf gap t rest) is = top_apart came rest is.2
-top_apart came (leaf text_item t rest) is = absurd is
-top_apart came (leaf reference_item t rest) is = absurd is
-top_apart came (leaf comment_item t rest) is = is
-top_apart came (leaf pi_item t rest) is = is
+top_apart : (stage last : Stage) (items : Items) → Leads stage items last → Apart items
+top_apart stage last nil is = tt
+top_apart stage last (element o k c rest) is = top_apart behind_root last rest is.3
+top_apart stage last (leaf comment_item t rest) is = top_apart stage last rest is.1
+top_apart stage last (leaf pi_item t rest) is = top_apart stage last rest is.1
+top_apart stage last (leaf gap t rest) (inl is) = top_apart before_root last rest is.2
+top_apart stage last (leaf gap t rest) (inr is) = top_apart stage last rest is.2
+top_apart stage last (leaf text_item t rest) is = absurd is
+top_apart stage last (leaf reference_item t rest) is = absurd is
+
+body_apart : (body : Body) (items : Items) → IsBody body items → Apart items
+body_apart document_body items is = top_apart before_doctype behind_root items is
+body_apart content_body items is = content_apart 0 items is
 
 fed_opened : (s : State) (items : Items) → (fed s items).opened ≡ s.opened
 fed_opened s nil = refl
-fed_opened s (element o k c rest) = fed_opened (record { opened = s.opened; items = with_text s.items s.text ++ element_item o k c ∷ []; text = None; came = true }) rest
-fed_opened s (leaf text_item t rest) = fed_opened (record s { text = Some (longer s.text t) }) rest
-fed_opened s (leaf reference_item t rest) = fed_opened (record s { items = with_text s.items s.text ++ leaf_item reference_item t ∷ []; text = None }) rest
-fed_opened s (leaf gap t rest) = fed_opened (record s { items = with_text s.items s.text ++ leaf_item gap t ∷ []; text = None }) rest
-fed_opened s (leaf comment_item t rest) = refl
-fed_opened s (leaf pi_item t rest) = refl
+fed_opened s (element o k c rest) = fed_opened (with_element s o k c) rest
+fed_opened s (leaf text_item t rest) = fed_opened (with_more s t) rest
+fed_opened s (leaf reference_item t rest) = fed_opened (with_item s (leaf_item reference_item t)) rest
+fed_opened s (leaf comment_item t rest) = fed_opened (with_item s (leaf_item comment_item t)) rest
+fed_opened s (leaf pi_item t rest) = fed_opened (with_item s (leaf_item pi_item t)) rest
+fed_opened s (leaf gap t rest) = fed_opened (with_gap s t) rest
 
-fed_came : (s : State) (items : Items) → s.came ≡ true → (fed s items).came ≡ true
-fed_came s nil came = came
-fed_came s (element o k c rest) came = fed_came (record { opened = s.opened; items = with_text s.items s.text ++ element_item o k c ∷ []; text = None; came = true }) rest refl
-fed_came s (leaf text_item t rest) came = fed_came (record s { text = Some (longer s.text t) }) rest came
-fed_came s (leaf reference_item t rest) came = fed_came (record s { items = with_text s.items s.text ++ leaf_item reference_item t ∷ []; text = None }) rest came
-fed_came s (leaf gap t rest) came = fed_came (record s { items = with_text s.items s.text ++ leaf_item gap t ∷ []; text = None }) rest came
-fed_came s (leaf comment_item t rest) came = came
-fed_came s (leaf pi_item t rest) came = came
+behind_twice : (stage : Option Stage) → behind_element (behind_element stage) ≡ behind_element stage
+behind_twice None = refl
+behind_twice (Some stage) = refl
+
+-- content leaves the stage, where an element does
+content_stage : (level : ℕ) (s : State) (items : Items) → IsContent level items → behind_element s.stage ≡ s.stage → (fed s items).stage ≡ s.stage
+content_stage level s nil is stays = refl
+content_stage level s (element o k c rest) is stays = content_stage level (with_element s o k c) rest is.2 (behind_twice s.stage) ∙ stays
+content_stage level s (leaf text_item t rest) is stays = content_stage level (with_more s t) rest is.2 stays
+content_stage level s (leaf reference_item t rest) is stays = content_stage level (with_item s (leaf_item reference_item t)) rest is.2 stays
+content_stage level s (leaf comment_item t rest) is stays = content_stage level (with_item s (leaf_item comment_item t)) rest is.1 stays
+content_stage level s (leaf pi_item t rest) is stays = content_stage level (with_item s (leaf_item pi_item t)) rest is.1 stays
+content_stage level s (leaf gap t rest) is stays = absurd is
 
 abbrev all_items : State → Items
 all_items s = items_of (with_text s.items s.text)
@@ -201,23 +242,21 @@ item_behind before item rest = ap (λ a. append a rest) (items.items_of-append b
 
 fed_items : (s : State) (list : Items) → Apart list → Clear s.text list → all_items (fed s list) ≡ append (all_items s) list
 fed_items s nil apart clear = sym (items.append-nil (all_items s))
-fed_items s (element o k c rest) apart clear =
-    fed_items (record { opened = s.opened; items = with_text s.items s.text ++ element_item o k c ∷ []; text = None; came = true }) rest apart tt
-    ∙ item_behind (with_text s.items s.text) (element_item o k c) rest
+fed_items s (element o k c rest) apart clear = fed_items (with_element s o k c) rest apart tt ∙ item_behind (with_text s.items s.text) (element_item o k c) rest
 fed_items s (leaf text_item t rest) apart clear =
-    fed_items (record s { text = Some (longer s.text t) }) rest apart.1 apart.0 ∙ text_behind s.items s.text t rest clear
+    fed_items (with_more s t) rest apart.1 apart.0 ∙ text_behind s.items s.text t rest clear
   where
     text_behind : (before : List Item) (text : Option (List ℕ)) (t : List ℕ) (rest : Items) → Clear text (leaf text_item t rest) → append (items_of (with_text before (Some (longer text t)))) rest ≡ append (items_of (with_text before text)) (leaf text_item t rest)
     text_behind before None t rest clear = item_behind before (leaf_item text_item t) rest
     text_behind before (Some a) t rest clear = absurd (let h : true ≡ false = clear in cc)
 fed_items s (leaf reference_item t rest) apart clear =
-    fed_items (record s { items = with_text s.items s.text ++ leaf_item reference_item t ∷ []; text = None }) rest apart tt
-    ∙ item_behind (with_text s.items s.text) (leaf_item reference_item t) rest
+    fed_items (with_item s (leaf_item reference_item t)) rest apart tt ∙ item_behind (with_text s.items s.text) (leaf_item reference_item t) rest
+fed_items s (leaf comment_item t rest) apart clear =
+    fed_items (with_item s (leaf_item comment_item t)) rest apart tt ∙ item_behind (with_text s.items s.text) (leaf_item comment_item t) rest
+fed_items s (leaf pi_item t rest) apart clear =
+    fed_items (with_item s (leaf_item pi_item t)) rest apart tt ∙ item_behind (with_text s.items s.text) (leaf_item pi_item t) rest
 fed_items s (leaf gap t rest) apart clear =
-    fed_items (record s { items = with_text s.items s.text ++ leaf_item gap t ∷ []; text = None }) rest apart tt
-    ∙ item_behind (with_text s.items s.text) (leaf_item gap t) rest
-fed_items s (leaf comment_item t rest) apart clear = absurd apart
-fed_items s (leaf pi_item t rest) apart clear = absurd apart
+    fed_items (with_gap s t) rest apart tt ∙ item_behind (with_text s.items s.text) (leaf_item gap t) rest
 
 -- ---- elements
 
@@ -228,28 +267,25 @@ both_true : (a b : Bool) → a ≡ true → b ≡ true → a && b ≡ true
 both_true a b x y = rw (x, y) refl
 
 -- an element may begin
-room : (opened : List OpenElement) (items : List Item) (text : Option (List ℕ)) (came : Bool) → length opened < 128 → (is_top opened ≡ true → came ≡ false) → has_room (record { opened = opened; items = items; text = text; came = came }) ≡ true
-room [] items text came below first = both_true (nat_lt 0 128) (not true || not came) (nat_lt_true 0 128 below) (rw (first refl) refl)
-room (e ∷ es) items text came below first = both_true (nat_lt (length (e ∷ es)) 128) true (nat_lt_true (length (e ∷ es)) 128 below) refl
-
-when_true : {A : Type 0} (b : Bool) (x y : A) → b ≡ true → (if b then x else y) ≡ x
-when_true b x y is = rw is refl
-
--- the state behind an element
-abbrev behind_element : List OpenElement → List Item → Option (List ℕ) → List ℕ → Items → Option (List ℕ) → State
-behind_element opened items text o k c = record { opened = opened; items = with_text items text ++ element_item o k c ∷ []; text = None; came = true }
+room : (opened : List OpenElement) (stage : Option Stage) (items : List Item) (text : Option (List ℕ)) → length opened < 128 → (is_top opened ≡ true → begins_root stage ≡ true) → has_room (at opened stage items text) ≡ true
+room opened stage items text below first =
+    both_true (not (not (nat_lt (length opened) 128))) (not (is_top opened) || begins_root stage) (ap (λ b. not (not b)) (nat_lt_true (length opened) 128 below)) (root opened first)
+  where
+    root : (opened : List OpenElement) → (is_top opened ≡ true → begins_root stage ≡ true) → (not (is_top opened) || begins_root stage) ≡ true
+    root [] first = first refl
+    root (e ∷ es) first = refl
 
 same_bytes : (xs : List ℕ) → bytes_eq xs xs ≡ true
 same_bytes xs = (bytes_eq-Decides xs xs).1 refl
 
 -- what an end-tag leaves of a state
-closes_to : (f : State) (e : OpenElement) (es : List OpenElement) (k : Items) (c name : List ℕ) → f.opened ≡ e ∷ es → f.came ≡ true → all_items f ≡ k → e.name ≡ name
-    → step f (end_tok c name) ≡ Some (record { opened = es; items = e.before ++ element_item e.open_tag k (Some c) ∷ []; text = None; came = true })
-closes_to f e es k c name opened came inner named =
+closes_to : (f : State) (e : OpenElement) (es : List OpenElement) (stage : Option Stage) (k : Items) (c name : List ℕ) → f.opened ≡ e ∷ es → f.stage ≡ stage → all_items f ≡ k → e.name ≡ name
+    → step f (end_tok c name) ≡ Some (at es stage (e.before ++ element_item e.open_tag k (Some c) ∷ []) None)
+closes_to f e es stage k c name opened stays inner named =
     ap (λ o. closed o f c name) opened
     ∙ when_true (bytes_eq e.name name) _ _ (subst (λ n. bytes_eq e.name n ≡ true) named (same_bytes e.name))
-    ∙ ap (λ k. Some (record { opened = es; items = e.before ++ element_item e.open_tag k (Some c) ∷ []; text = None; came = f.came })) inner
-    ∙ ap (λ b. Some (record { opened = es; items = e.before ++ element_item e.open_tag k (Some c) ∷ []; text = None; came = b })) came
+    ∙ ap (λ k. Some (at es f.stage (e.before ++ element_item e.open_tag k (Some c) ∷ []) None)) inner
+    ∙ ap (λ b. Some (at es b (e.before ++ element_item e.open_tag k (Some c) ∷ []) None)) stays
 
 follows_end_tag : (name c rest : List ℕ) → IsEndTag name c → Follows (c ++ rest)
 follows_end_tag name c rest (blank, is_blank, e) = follows_markup c (0x2F ∷ (name ++ blank ++ codes ">")) rest (e ∙ simp append_assoc)
@@ -258,37 +294,39 @@ element_text : (o k c after : List ℕ) → ((o ++ k) ++ c) ++ after ≡ o ++ (k
 element_text o k c after = simp append_assoc
 
 -- an element is read, where its content is
-element_reads : (opened : List OpenElement) (items : List Item) (text : Option (List ℕ)) (came : Bool) (o : List ℕ) (k : Items) (c : Option (List ℕ)) (after : List ℕ) (u : State)
-    → IsElementAt (length opened) o k c → Apart k → (is_top opened ≡ true → came ≡ false)
-    → ((e : OpenElement) (rest : List ℕ) → Follows rest → Reads (fed (in_element e opened [] None) k) rest u → Reads (in_element e opened [] None) (source_text k ++ rest) u)
-    → Reads (behind_element opened items text o k c) after u
-    → Reads (record { opened = opened; items = items; text = text; came = came }) (o ++ source_text k ++ close_text c ++ after) u
-element_reads opened items text came o k None after u is apart first inner run =
+element_reads : (opened : List OpenElement) (stage : Option Stage) (items : List Item) (text : Option (List ℕ)) (o : List ℕ) (k : Items) (c : Option (List ℕ)) (after : List ℕ) (u : State)
+    → IsElementAt (length opened) o k c → IsContent (suc (length opened)) k → (is_top opened ≡ true → begins_root stage ≡ true)
+    → ((e : OpenElement) (rest : List ℕ) → Follows rest → Reads (fed (at (e ∷ opened) (behind_element stage) [] None) k) rest u → Reads (at (e ∷ opened) (behind_element stage) [] None) (source_text k ++ rest) u)
+    → Reads (with_element (at opened stage items text) o k c) after u
+    → Reads (at opened stage items text) (o ++ source_text k ++ close_text c ++ after) u
+element_reads opened stage items text o k None after u is content first inner run =
     let el = is.element in
-    let s : State = record { opened = opened; items = items; text = text; came = came } in
+    let s : State = at opened stage items text in
     let names = attribute_names el.tag in
     let k_is : k ≡ nil = el.closes in
-    let steps : step s (empty_tok o names) ≡ Some (behind_element opened items text o nil None) =
-    when_true (has_room s && are_distinct names) _ _ (both_true (has_room s) (are_distinct names) (room opened items text came is.within first) el.unique) in
-    let run_nil = subst (λ (k : Items). Reads (behind_element opened items text o k None) after u) k_is run in
-    let read = reads_step s (behind_element opened items text o nil None) u (empty_tok o names) empty_tag after (el.tag, el.parts, el.spelled) (λ k. cc)
+    let steps : step s (empty_tok o names) ≡ Some (with_element s o nil None) =
+    when_true (has_room s && are_distinct names) _ _ (both_true (has_room s) (are_distinct names) (room opened stage items text is.within first) el.unique) in
+    let run_nil = subst (λ (k : Items). Reads (with_element s o k None) after u) k_is run in
+    let read = reads_step s (with_element s o nil None) u (empty_tok o names) empty_tag after (el.tag, el.parts, el.spelled) (λ k. cc)
     (refl, el.tag.name, record { tag = el.tag; parts = el.parts; spelled = el.spelled; is_name = refl; are_names = refl }) steps run_nil in
     subst (λ (t : List ℕ). Reads s t u) (ap (λ k. ((o ++ source_text k) ++ []) ++ after) (sym k_is) ∙ refl) (subst (λ (t : List ℕ). Reads s t u) (nothing o after) read)
   where
     nothing : (o after : List ℕ) → o ++ after ≡ ((o ++ []) ++ []) ++ after
     nothing o after = ap (λ t. t ++ after) (sym (append-nil (o ++ []) ∙ append-nil o))
-element_reads opened items text came o k (Some c) after u is apart first inner run =
+element_reads opened stage items text o k (Some c) after u is content first inner run =
     let el = is.element in
-    let s : State = record { opened = opened; items = items; text = text; came = came } in
+    let s : State = at opened stage items text in
     let names = attribute_names el.tag in
     let e : OpenElement = record { open_tag = o; name = el.tag.name; before = with_text items text } in
-    let steps : step s (start_tok o el.tag.name names) ≡ Some (in_element e opened [] None) =
-    when_true (has_room s && are_distinct names) _ _ (both_true (has_room s) (are_distinct names) (room opened items text came is.within first) el.unique) in
-    let f = fed (in_element e opened [] None) k in
-    let close_steps = closes_to f e opened k c el.tag.name (fed_opened (in_element e opened [] None) k) (fed_came (in_element e opened [] None) k refl) (fed_items (in_element e opened [] None) k apart tt) refl in
-    let closing = reads_step f (behind_element opened items text o k (Some c)) u (end_tok c el.tag.name) end_tag after (el.tag.name, el.parts.name, el.closes) (λ k. cc) (refl, el.parts.name, el.closes) close_steps run in
+    let begun : State = at (e ∷ opened) (behind_element stage) [] None in
+    let steps : step s (start_tok o el.tag.name names) ≡ Some begun =
+    when_true (has_room s && are_distinct names) _ _ (both_true (has_room s) (are_distinct names) (room opened stage items text is.within first) el.unique) in
+    let f = fed begun k in
+    let stays : f.stage ≡ behind_element stage = content_stage (suc (length opened)) begun k content (behind_twice stage) in
+    let close_steps = closes_to f e opened (behind_element stage) k c el.tag.name (fed_opened begun k) stays (fed_items begun k (content_apart (suc (length opened)) k content) tt) refl in
+    let closing = reads_step f (with_element s o k (Some c)) u (end_tok c el.tag.name) end_tag after (el.tag.name, el.parts.name, el.closes) (λ k. cc) (refl, el.parts.name, el.closes) close_steps run in
     let content = inner e (c ++ after) (follows_end_tag el.tag.name c after el.closes) closing in
-    let opening = reads_step s (in_element e opened [] None) u (start_tok o el.tag.name names) start_tag (source_text k ++ (c ++ after)) (el.tag, el.parts, el.spelled) (λ k. cc)
+    let opening = reads_step s begun u (start_tok o el.tag.name names) start_tag (source_text k ++ (c ++ after)) (el.tag, el.parts, el.spelled) (λ k. cc)
     (refl, record { tag = el.tag; parts = el.parts; spelled = el.spelled; is_name = refl; are_names = refl }) steps content in
     subst (λ (t : List ℕ). Reads s t u) (sym (element_text o (source_text k) c after)) opening
 
@@ -300,6 +338,19 @@ both_parts false b e = absurd (let h : false ≡ true = e in cc)
 
 space_plain : (b : ℕ) → is_space b ≡ true → IsPlain b
 space_plain b is = (grind (arith, nat_tests), (λ e. let h : is_space 0x3C ≡ true = subst (λ b. is_space b ≡ true) e is in cc), λ e. let h : is_space 0x26 ≡ true = subst (λ b. is_space b ≡ true) e is in cc)
+
+pub comment_begins : (t : List ℕ) → IsComment t → (tail : List ℕ) × (t ≡ 0x3C ∷ tail)
+comment_begins t (inner, chars, lacks, e) = (codes "!--" ++ inner ++ codes "-->", e ∙ simp append_assoc)
+
+pub pi_begins : (t : List ℕ) → IsPi t → (tail : List ℕ) × (t ≡ 0x3C ∷ tail)
+pi_begins t (target, inner, is, data_is, e) = (codes "?" ++ target ++ inner ++ codes "?>", e ∙ simp append_assoc)
+
+pub doctype_begins : (t : List ℕ) → IsDoctype t → (tail : List ℕ) × (t ≡ 0x3C ∷ tail)
+doctype_begins t is = (codes "!DOCTYPE" ++ is.space ++ is.name ++ is.external ++ is.blank ++ is.brackets ++ codes ">", is.spelled ∙ simp append_assoc)
+
+-- a DOCTYPE is no white space
+pub doctype_no_blank : (t : List ℕ) → IsDoctype t → list_all is_space t ≡ false
+doctype_no_blank t is = let (tail, e) = doctype_begins t is in ap (list_all is_space) e
 
 -- what follows character data: what comes behind the items, where they don't begin with a text item
 follows_content : (level : ℕ) (list : Items) (rest : List ℕ) → IsContent level list → begins_with text_item list ≡ false → Follows rest → Follows (source_text list ++ rest)
@@ -320,38 +371,53 @@ follows_content level (leaf reference_item t list) rest is none follows =
     subst Follows (sym (append_assoc t (source_text list) rest)) (follows_reference t (source_text list ++ rest) (_, e))
 follows_content level (leaf text_item t list) rest is none follows = absurd (let h : true ≡ false = none in cc)
 follows_content level (leaf gap t list) rest is none follows = absurd is
-follows_content level (leaf comment_item t list) rest is none follows = absurd is
-follows_content level (leaf pi_item t list) rest is none follows = absurd is
+follows_content level (leaf comment_item t list) rest is none follows =
+    let (tail, e) = comment_begins t is.0 in subst Follows (sym (append_assoc t (source_text list) rest)) (follows_markup t tail (source_text list ++ rest) e)
+follows_content level (leaf pi_item t list) rest is none follows =
+    let (tail, e) = pi_begins t is.0 in subst Follows (sym (append_assoc t (source_text list) rest)) (follows_markup t tail (source_text list ++ rest) e)
 
--- content within elements is read
-content_reads : (e : OpenElement) (es : List OpenElement) (items : List Item) (text : Option (List ℕ)) (list : Items) (rest : List ℕ) (u : State)
-    → IsContent (length (e ∷ es)) list → Follows rest → Reads (fed (in_element e es items text) list) rest u → Reads (in_element e es items text) (source_text list ++ rest) u
-content_reads e es items text nil rest u is follows run = run
-content_reads e es items text (element o k c list) rest u is follows run =
-    subst (λ (t : List ℕ). Reads (in_element e es items text) t u) (sym (append_assoc (o ++ source_text k ++ close_text c) (source_text list) rest))
-    (element_reads (e ∷ es) items text true o k c (source_text list ++ rest) u is.0 (content_apart (suc (length (e ∷ es))) k is.1) (λ top. let h : false ≡ true = top in cc)
-    (λ inner rest follows run. content_reads inner (e ∷ es) [] None k rest u is.1 follows run)
-    (content_reads e es (with_text items text ++ element_item o k c ∷ []) None list rest u is.2 follows run))
-content_reads e es items text (leaf text_item t list) rest u is follows run =
-    subst (λ (t : List ℕ). Reads (in_element e es items text) t u) (sym (append_assoc t (source_text list) rest))
-    (text_reads e es items text t (source_text list ++ rest) u is.0 (follows_content (length (e ∷ es)) list rest is.2 is.1 follows)
-    (content_reads e es items (Some (longer text t)) list rest u is.2 follows run))
-content_reads e es items text (leaf reference_item t list) rest u is follows run =
-    subst (λ (t : List ℕ). Reads (in_element e es items text) t u) (sym (append_assoc t (source_text list) rest))
-    (reads_step (in_element e es items text) (in_element e es (with_text items text ++ leaf_item reference_item t ∷ []) None) u (other_tok t) entity_ref (source_text list ++ rest) is.0 (λ k. cc) (refl, is.1) refl
-    (content_reads e es (with_text items text ++ leaf_item reference_item t ∷ []) None list rest u is.2 follows run))
-content_reads e es items text (leaf gap t list) rest u is follows run = absurd is
-content_reads e es items text (leaf comment_item t list) rest u is follows run = absurd is
-content_reads e es items text (leaf pi_item t list) rest u is follows run = absurd is
+-- content is read
+content_reads : (opened : List OpenElement) (stage : Option Stage) (items : List Item) (text : Option (List ℕ)) (list : Items) (rest : List ℕ) (u : State)
+    → IsIn opened stage → IsContent (length opened) list → Follows rest → Reads (fed (at opened stage items text) list) rest u → Reads (at opened stage items text) (source_text list ++ rest) u
+content_reads opened stage items text nil rest u is_in is follows run = run
+content_reads opened stage items text (element o k c list) rest u is_in is follows run =
+    subst (λ (t : List ℕ). Reads (at opened stage items text) t u) (sym (append_assoc (o ++ source_text k ++ close_text c) (source_text list) rest))
+    (element_reads opened stage items text o k c (source_text list ++ rest) u is.0 is.1 (first opened stage is_in)
+    (λ inner rest follows run. content_reads (inner ∷ opened) (behind_element stage) [] None k rest u refl is.1 follows run)
+    (content_reads opened (behind_element stage) (with_text items text ++ element_item o k c ∷ []) None list rest u (still_in opened stage is_in) is.2 follows run))
+  where
+    first : (opened : List OpenElement) (stage : Option Stage) → IsIn opened stage → is_top opened ≡ true → begins_root stage ≡ true
+    first [] None is_in top = refl
+    first [] (Some stage) is_in top = absurd (let h : false ≡ true = is_in in cc)
+    first (e ∷ es) stage is_in top = absurd (let h : false ≡ true = top in cc)
+
+    still_in : (opened : List OpenElement) (stage : Option Stage) → IsIn opened stage → IsIn opened (behind_element stage)
+    still_in [] None is_in = is_in
+    still_in [] (Some stage) is_in = is_in
+    still_in (e ∷ es) stage is_in = refl
+content_reads opened stage items text (leaf text_item t list) rest u is_in is follows run =
+    subst (λ (t : List ℕ). Reads (at opened stage items text) t u) (sym (append_assoc t (source_text list) rest))
+    (text_reads opened stage items text t (source_text list ++ rest) u is_in is.0 (follows_content (length opened) list rest is.2 is.1 follows)
+    (content_reads opened stage items (Some (longer text t)) list rest u is_in is.2 follows run))
+content_reads opened stage items text (leaf reference_item t list) rest u is_in is follows run =
+    subst (λ (t : List ℕ). Reads (at opened stage items text) t u) (sym (append_assoc t (source_text list) rest))
+    (reads_step (at opened stage items text) (with_item (at opened stage items text) (leaf_item reference_item t)) u (piece_tok reference_piece t) entity_ref (source_text list ++ rest) is.0 (λ k. cc) (refl, is.1) (when_true _ _ _ is_in)
+    (content_reads opened stage (with_text items text ++ leaf_item reference_item t ∷ []) None list rest u is_in is.2 follows run))
+content_reads opened stage items text (leaf gap t list) rest u is_in is follows run = absurd is
+content_reads opened stage items text (leaf comment_item t list) rest u is_in is follows run =
+    subst (λ (t : List ℕ). Reads (at opened stage items text) t u) (sym (append_assoc t (source_text list) rest))
+    (reads_step (at opened stage items text) (with_item (at opened stage items text) (leaf_item comment_item t)) u (piece_tok comment_piece t) comment (source_text list ++ rest) is.0 (λ k. cc) refl refl
+    (content_reads opened stage (with_text items text ++ leaf_item comment_item t ∷ []) None list rest u is_in is.1 follows run))
+content_reads opened stage items text (leaf pi_item t list) rest u is_in is follows run =
+    subst (λ (t : List ℕ). Reads (at opened stage items text) t u) (sym (append_assoc t (source_text list) rest))
+    (reads_step (at opened stage items text) (with_item (at opened stage items text) (leaf_item pi_item t)) u (piece_tok pi_piece t) pi (source_text list ++ rest) is.0 (λ k. cc) refl refl
+    (content_reads opened stage (with_text items text ++ leaf_item pi_item t ∷ []) None list rest u is_in is.1 follows run))
 
 -- ---- the top
 
-abbrev at_top : List Item → Option (List ℕ) → Bool → State
-at_top items text came = record { opened = []; items = items; text = text; came = came }
-
-follows_top : (came : Bool) (list : Items) → IsTop came list → begins_with gap list ≡ false → Follows (source_text list)
-follows_top came nil is none = tt
-follows_top came (element o k c list) is none =
+follows_top : (stage last : Stage) (list : Items) → Leads stage list last → begins_with_space list ≡ false → Follows (source_text list)
+follows_top stage last nil is none = tt
+follows_top stage last (element o k c list) is none =
     let el = is.1.element in
     let (tail, e) = open_begins el.tag (tag_ending c) in
     subst Follows (regroup o (source_text k) (close_text c) (source_text list)) (follows_markup o tail (source_text k ++ (close_text c ++ source_text list)) (el.spelled ∙ e))
@@ -361,11 +427,12 @@ follows_top came (element o k c list) is none =
 
     regroup : (o k c l : List ℕ) → o ++ (k ++ (c ++ l)) ≡ ((o ++ k) ++ c) ++ l
     regroup o k c l = simp append_assoc
-follows_top came (leaf gap t list) is none = absurd (let h : true ≡ false = none in cc)
-follows_top came (leaf text_item t list) is none = absurd is
-follows_top came (leaf reference_item t list) is none = absurd is
-follows_top came (leaf comment_item t list) is none = absurd is
-follows_top came (leaf pi_item t list) is none = absurd is
+follows_top stage last (leaf gap t list) (inl is) none = let (tail, e) = doctype_begins t is.1 in follows_markup t tail (source_text list) e
+follows_top stage last (leaf gap t list) (inr is) none = absurd (let h : true ≡ false = sym is.0.0 ∙ none in cc)
+follows_top stage last (leaf text_item t list) is none = absurd is
+follows_top stage last (leaf reference_item t list) is none = absurd is
+follows_top stage last (leaf comment_item t list) is none = let (tail, e) = comment_begins t is.0 in follows_markup t tail (source_text list) e
+follows_top stage last (leaf pi_item t list) is none = let (tail, e) = pi_begins t is.0 in follows_markup t tail (source_text list) e
 
 blank_chars : (t : List ℕ) → list_all is_space t ≡ true → AllByRecursion IsPlain t × (encode_utf8_all t ≡ t)
 blank_chars [] is = (tt, refl)
@@ -388,38 +455,75 @@ spells_blank t is some = let chars = blank_chars t is in (t, some, chars.0, sym 
 spells_space : (t : List ℕ) → IsSpace t → Spells char_data t
 spells_space t is = spells_blank t is.0 is.1
 
-top_reads : (items : List Item) (text : Option (List ℕ)) (came : Bool) (list : Items) (u : State) → IsTop came list → Reads (fed (at_top items text came) list) [] u → Reads (at_top items text came) (source_text list) u
-top_reads items text came nil u is run = run
-top_reads items text came (element o k c list) u is run =
-    element_reads [] items text came o k c (source_text list) u is.1 (content_apart 1 k is.2) (λ top. is.0)
-    (λ inner rest follows run. content_reads inner [] [] None k rest u is.2 follows run)
-    (top_reads (with_text items text ++ element_item o k c ∷ []) None true list u is.3 run)
-top_reads items text came (leaf gap t list) u is run =
-    reads_step (at_top items text came) (at_top (with_text items text ++ leaf_item gap t ∷ []) None came) u (data_tok t) char_data (source_text list) (spells_space t is.0) (λ k. follows_top came list is.2 is.1) refl
+top_reads : (stage last : Stage) (items : List Item) (text : Option (List ℕ)) (list : Items) (u : State) → Leads stage list last → Reads (fed (at [] (Some stage) items text) list) [] u → Reads (at [] (Some stage) items text) (source_text list) u
+top_reads stage last items text nil u is run = run
+top_reads stage last items text (element o k c list) u is run =
+    element_reads [] (Some stage) items text o k c (source_text list) u is.1 is.2 (λ top. is.0)
+    (λ inner rest follows run. content_reads (inner ∷ []) (Some behind_root) [] None k rest u refl is.2 follows run)
+    (top_reads behind_root last (with_text items text ++ element_item o k c ∷ []) None list u is.3 run)
+top_reads stage last items text (leaf gap t list) u (inl is) run =
+    let s : State = at [] (Some stage) items text in
+    let stays : with_gap s t ≡ with_doctype s t = ap (λ b. at [] b (with_text items text ++ leaf_item gap t ∷ []) None) (when_false (list_all is_space t) _ _ (doctype_no_blank t is.1)) in
+    reads_step s (with_doctype s t) u (piece_tok doctype_piece t) doctype (source_text list) is.1 (λ k. cc) refl
+    (when_true (begins_document (Some stage)) _ _ (ap (λ s. begins_document (Some s)) is.0))
+    (top_reads before_root last (with_text items text ++ leaf_item gap t ∷ []) None list u is.2 (subst (λ s. Reads (fed s list) [] u) stays run))
+top_reads stage last items text (leaf gap t list) u (inr is) run =
+    let s : State = at [] (Some stage) items text in
+    let stays : with_gap s t ≡ with_item s (leaf_item gap t) = ap (λ b. at [] b (with_text items text ++ leaf_item gap t ∷ []) None) (when_true (list_all is_space t) _ _ is.0.0) in
+    reads_step s (with_item s (leaf_item gap t)) u (piece_tok data_piece t) char_data (source_text list) (spells_space t is.0) (λ k. follows_top stage last list is.2 is.1) refl
     (when_true (list_all is_space t) _ _ is.0.0)
-    (top_reads (with_text items text ++ leaf_item gap t ∷ []) None came list u is.2 run)
-top_reads items text came (leaf text_item t list) u is run = absurd is
-top_reads items text came (leaf reference_item t list) u is run = absurd is
-top_reads items text came (leaf comment_item t list) u is run = absurd is
-top_reads items text came (leaf pi_item t list) u is run = absurd is
+    (top_reads stage last (with_text items text ++ leaf_item gap t ∷ []) None list u is.2 (subst (λ s. Reads (fed s list) [] u) stays run))
+top_reads stage last items text (leaf text_item t list) u is run = absurd is
+top_reads stage last items text (leaf reference_item t list) u is run = absurd is
+top_reads stage last items text (leaf comment_item t list) u is run =
+    reads_step (at [] (Some stage) items text) (with_item (at [] (Some stage) items text) (leaf_item comment_item t)) u (piece_tok comment_piece t) comment (source_text list) is.0 (λ k. cc) refl refl
+    (top_reads stage last (with_text items text ++ leaf_item comment_item t ∷ []) None list u is.1 run)
+top_reads stage last items text (leaf pi_item t list) u is run =
+    reads_step (at [] (Some stage) items text) (with_item (at [] (Some stage) items text) (leaf_item pi_item t)) u (piece_tok pi_piece t) pi (source_text list) is.0 (λ k. cc) refl refl
+    (top_reads stage last (with_text items text ++ leaf_item pi_item t ∷ []) None list u is.1 run)
 
--- behind a whole document the element came
-top_came : (items : List Item) (text : Option (List ℕ)) (came : Bool) (list : Items) → IsTop came list → (fed (at_top items text came) list).came ≡ true
-top_came items text came nil is = is
-top_came items text came (element o k c list) is = top_came (with_text items text ++ element_item o k c ∷ []) None true list is.3
-top_came items text came (leaf gap t list) is = top_came (with_text items text ++ leaf_item gap t ∷ []) None came list is.2
-top_came items text came (leaf text_item t list) is = absurd is
-top_came items text came (leaf reference_item t list) is = absurd is
-top_came items text came (leaf comment_item t list) is = absurd is
-top_came items text came (leaf pi_item t list) is = absurd is
+-- how far the top comes
+top_stage : (stage last : Stage) (items : List Item) (text : Option (List ℕ)) (list : Items) → Leads stage list last → (fed (at [] (Some stage) items text) list).stage ≡ Some last
+top_stage stage last items text nil is = ap Some is
+top_stage stage last items text (element o k c list) is = top_stage behind_root last (with_text items text ++ element_item o k c ∷ []) None list is.3
+top_stage stage last items text (leaf gap t list) (inl is) =
+    ap (λ b. (fed (at [] b (with_text items text ++ leaf_item gap t ∷ []) None) list).stage) (when_false (list_all is_space t) _ _ (doctype_no_blank t is.1))
+    ∙ top_stage before_root last (with_text items text ++ leaf_item gap t ∷ []) None list is.2
+top_stage stage last items text (leaf gap t list) (inr is) =
+    ap (λ b. (fed (at [] b (with_text items text ++ leaf_item gap t ∷ []) None) list).stage) (when_true (list_all is_space t) _ _ is.0.0)
+    ∙ top_stage stage last (with_text items text ++ leaf_item gap t ∷ []) None list is.2
+top_stage stage last items text (leaf text_item t list) is = absurd is
+top_stage stage last items text (leaf reference_item t list) is = absurd is
+top_stage stage last items text (leaf comment_item t list) is = top_stage stage last (with_text items text ++ leaf_item comment_item t ∷ []) None list is.1
+top_stage stage last items text (leaf pi_item t list) is = top_stage stage last (with_text items text ++ leaf_item pi_item t ∷ []) None list is.1
 
--- A reading is what the longest tokens from left to right give.
-pub reading_is_read : (bytes : List ℕ) (list : Items) → IsReading document bytes list → IsRead bytes list
-reading_is_read bytes list is = record {
-  utf8 = is.utf8;
-  last = fed begin list;
-  reads = subst (λ (t : List ℕ). Reads begin t (fed begin list)) is.joined (top_reads [] None false list (fed begin list) is.ordered (done (fed begin list)));
-  closed = fed_opened begin list;
-  came = top_came [] None false list is.ordered;
-  are = fed_items begin list (top_apart false list is.ordered) tt;
+body_reads : (body : Body) (list : Items) → IsBody body list → Reads (begin body) (source_text list) (fed (begin body) list)
+body_reads document_body list is = top_reads before_doctype behind_root [] None list (fed (begin document_body) list) is (done (fed (begin document_body) list))
+body_reads content_body list is =
+    subst (λ (t : List ℕ). Reads (begin content_body) t (fed (begin content_body) list)) (append-nil (source_text list))
+    (content_reads [] None [] None list [] (fed (begin content_body) list) refl is tt (done (fed (begin content_body) list)))
+
+body_ended : (body : Body) (list : Items) → IsBody body list → has_ended (fed (begin body) list).stage ≡ true
+body_ended document_body list is = ap has_ended (top_stage before_doctype behind_root [] None list is)
+body_ended content_body list is = ap has_ended (content_stage 0 (begin content_body) list is refl)
+
+no_text : (body : Body) (list : Items) → Clear (begin body).text list
+no_text document_body list = tt
+no_text content_body list = tt
+
+fed_body : (body : Body) (list : Items) → Apart list → all_items (fed (begin body) list) ≡ list
+fed_body document_body list apart = fed_items (begin document_body) list apart tt
+fed_body content_body list apart = fed_items (begin content_body) list apart tt
+
+-- A body is what the longest tokens from left to right give.
+pub body_is_read : (body : Body) (bytes : List ℕ) (list : Items) → IsBody body list → source_text list ≡ bytes → IsRead body bytes list
+body_is_read body bytes list is joined = record {
+  last = fed (begin body) list;
+  reads = subst (λ (t : List ℕ). Reads (begin body) t (fed (begin body) list)) joined (body_reads body list is);
+  whole = record { closed = opened body list; ended = body_ended body list is };
+  are = fed_body body list (body_apart body list is);
 }
+  where
+    opened : (body : Body) (list : Items) → (fed (begin body) list).opened ≡ []
+    opened document_body list = fed_opened (begin document_body) list
+    opened content_body list = fed_opened (begin content_body) list

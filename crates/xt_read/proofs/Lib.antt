@@ -6,6 +6,10 @@ mod Runs
 mod ItemLemmas
 mod Complete
 mod Sound
+mod Fronts
+mod FrontPlaces
+mod NoFaults
+mod Examples
 mod TagParts
 mod TokenSteps
 mod Whole
@@ -13,6 +17,7 @@ mod ValueParts
 mod Cuts
 mod NodeCounts
 mod PlainTags
+mod PlainTexts
 mod PlainItems
 mod PlainReadings
 pub mod Theorems

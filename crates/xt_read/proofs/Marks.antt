@@ -17,10 +17,16 @@ use Rattle.xt_read.specs.Run.{longer}
 text_marks : (s : Span) → marks_in (src.Text s) ≡ span_mark s ∷ []
 text_marks s = ap marks_in (sym (src.rolls-Text s)) ∙ fold-roll-Src (List Mark) mark_step (Src-F.Text s)
 
-reference_marks : (s : Span) → marks_in (src.Ref s) ≡ span_mark s ∷ []
+pub comment_marks : (s : Span) → marks_in (src.Comment s) ≡ span_mark s ∷ []
+comment_marks s = ap marks_in (sym (src.rolls-Comment s)) ∙ fold-roll-Src (List Mark) mark_step (Src-F.Comment s)
+
+pub pi_marks : (s : Span) → marks_in (src.Pi s) ≡ span_mark s ∷ []
+pi_marks s = ap marks_in (sym (src.rolls-Pi s)) ∙ fold-roll-Src (List Mark) mark_step (Src-F.Pi s)
+
+pub reference_marks : (s : Span) → marks_in (src.Ref s) ≡ span_mark s ∷ []
 reference_marks s = ap marks_in (sym (src.rolls-Ref s)) ∙ fold-roll-Src (List Mark) mark_step (Src-F.Ref s)
 
-gap_marks : (s : Span) → marks_in (src.Gap s) ≡ span_mark s ∷ []
+pub gap_marks : (s : Span) → marks_in (src.Gap s) ≡ span_mark s ∷ []
 gap_marks s = ap marks_in (sym (src.rolls-Gap s)) ∙ fold-roll-Src (List Mark) mark_step (Src-F.Gap s)
 
 pub element_marks : (head : Tag) (kids : List Src) (tail : Option Span) → marks_in (src.Elem head kids tail) ≡ tag_mark head ∷ marks_of kids ++ tail_marks tail
@@ -37,20 +43,17 @@ frame_push (first ∷ frames) frame =
     ∙ sym (append_assoc (marks_of first.before) (tag_mark first.head ∷ frame_marks frames) (marks_of frame.before ++ tag_mark frame.head ∷ []))
 
 -- an item more behind what was read
-pub pushed : (frames marks : List Mark) (items new : List Src) (item : Src) (mark : Mark) → new ≡ items ++ item ∷ [] → marks_in item ≡ mark ∷ [] → frames ++ marks_of items ≡ marks → (frames ++ marks_of new) ++ [] ≡ marks ++ mark ∷ []
-pushed frames marks items new item mark added is before =
+pub pushed_item : (frames marks : List Mark) (items new : List Src) (item : Src) → new ≡ items ++ item ∷ [] → frames ++ marks_of items ≡ marks → (frames ++ marks_of new) ++ [] ≡ marks ++ marks_in item
+pushed_item frames marks items new item added before =
     append-nil (frames ++ marks_of new)
-    ∙ ap (λ n. frames ++ marks_of n) added ∙ ap (λ m. frames ++ m) (marks_push items item ∙ ap (λ m. marks_of items ++ m) is)
-    ∙ sym (append_assoc frames (marks_of items) (mark ∷ [])) ∙ ap (λ m. m ++ mark ∷ []) before
+    ∙ ap (λ n. frames ++ marks_of n) added ∙ ap (λ m. frames ++ m) (marks_push items item)
+    ∙ sym (append_assoc frames (marks_of items) (marks_in item)) ∙ ap (λ m. m ++ marks_in item) before
+
+pushed : (frames marks : List Mark) (items new : List Src) (item : Src) (mark : Mark) → new ≡ items ++ item ∷ [] → marks_in item ≡ mark ∷ [] → frames ++ marks_of items ≡ marks → (frames ++ marks_of new) ++ [] ≡ marks ++ mark ∷ []
+pushed frames marks items new item mark added is before = pushed_item frames marks items new item added before ∙ ap (λ m. marks ++ m) is
 
 pub pushed_text : (frames : List Mark) (items new : List Src) (span : Span) → new ≡ items ++ src.Text span ∷ [] → frames ++ marks_of new ≡ (frames ++ marks_of items) ++ span_mark span ∷ []
 pushed_text frames items new span added = sym (append-nil (frames ++ marks_of new)) ∙ pushed frames (frames ++ marks_of items) items new (src.Text span) (span_mark span) added (text_marks span) refl
-
-pub pushed_gap : (frames marks : List Mark) (items new : List Src) (span : Span) → new ≡ items ++ src.Gap span ∷ [] → frames ++ marks_of items ≡ marks → (frames ++ marks_of new) ++ [] ≡ marks ++ span_mark span ∷ []
-pushed_gap frames marks items new span added before = pushed frames marks items new (src.Gap span) (span_mark span) added (gap_marks span) before
-
-pub pushed_reference : (frames marks : List Mark) (items new : List Src) (span : Span) → new ≡ items ++ src.Ref span ∷ [] → frames ++ marks_of items ≡ marks → (frames ++ marks_of new) ++ [] ≡ marks ++ span_mark span ∷ []
-pushed_reference frames marks items new span added before = pushed frames marks items new (src.Ref span) (span_mark span) added (reference_marks span) before
 
 pub pushed_empty : (frames marks : List Mark) (items new : List Src) (head : Tag) → new ≡ items ++ src.Elem head [] None ∷ [] → frames ++ marks_of items ≡ marks → (frames ++ marks_of new) ++ [] ≡ marks ++ tag_mark head ∷ []
 pushed_empty frames marks items new head added before = pushed frames marks items new (src.Elem head [] None) (tag_mark head) added (element_marks head [] None) before

@@ -42,6 +42,9 @@ counts_element (Some left) most rest kids one is = omega (arith, one, is)
 pub item_element : (bytes : List ℕ) (head : Tag) (kids : List Src) (tail : Option Span) → item_of bytes (src.Elem head kids tail) ≡ element_item (at_span bytes head.span) (items_in bytes kids) (option_map (at_span bytes) tail)
 item_element bytes head kids tail = ap (item_of bytes) (sym (src.rolls-Elem head kids tail)) ∙ fold-roll-Src Item (item_step bytes) (Src-F.Elem head kids tail)
 
+pub item_text : (bytes : List ℕ) (span : Span) → item_of bytes (src.Text span) ≡ leaf_item text_item (at_span bytes span)
+item_text bytes span = ap (item_of bytes) (sym (src.rolls-Text span)) ∙ fold-roll-Src Item (item_step bytes) (Src-F.Text span)
+
 pub counts_kids : (bytes : List ℕ) (item : Src) (head : Tag) (kids slice : List Src) (tail : Option Span) (r : Option ℕ) (most rest : ℕ) → item ≡ src.Elem head kids tail → slice ≡ kids → (1 ≤ most) × (rest ≡ most - 1) → MatchOption r (rest < node_count (items_in bytes slice)) (λ left. left + node_count (items_in bytes slice) ≡ rest)
     → MatchOption r (most < node_count (before (item_of bytes item) nil)) (λ left. left + node_count (before (item_of bytes item) nil) ≡ most)
 counts_kids bytes item head kids slice tail r most rest is same one counted =

@@ -3,7 +3,8 @@ use Rattle.std.proofs.Common.{◌≡◌, ◌∙◌, ℕ, ◌+◌, ◌<◌, ◌�
 use Rattle.std.proofs.lemmas.List.{drop_more, drop_all, length-append}
 use Rattle.xt_spec.specs.Tag.{tag_text}
 use Rattle.xt_spec.specs.Tree.{Items, nil, element, leaf, before, Item, element_item, leaf_item, text_item, reference_item, comment_item, pi_item, gap}
-use Rattle.xt_spec.specs.Reading.{IsElement, IsContent, IsTop, tag_ending}
+use Rattle.xt_spec.specs.Reading.{IsElement, IsContent, Stage, before_doctype, before_root, behind_root, Leads, tag_ending}
+use Rattle.xt_read.specs.Run.{Body, document_body, content_body, IsBody}
 use Rattle.xt_spec.specs.Plain.{IsPlainTag, IsPlainItems}
 use Rattle.xt_lex.specs.Place.{EndsTag}
 use Rattle.xt_lex.specs.declared.token.Span.{Span}
@@ -15,7 +16,10 @@ use Rattle.xt_tree.specs.Meaning.{at_span, item_of, items_in}
 use Rattle.xt_tree.specs.Places.{Mark, tag_mark, span_mark, AreInPlace, IsTagAt, ending, marks_in, marks_of, tail_marks}
 use Rattle.xt_tree.proofs.PlaceLemmas.{in_place-split}
 use Rattle.xt_read.proofs.Marks.{element_marks}
-use Rattle.xt_read.proofs.NodeCounts.{item_element}
+use Rattle.xt_read.proofs.NodeCounts.{item_element, item_text}
+use Rattle.xt_read.proofs.PlainTexts.{lacks_is_plain}
+use Rattle.xt_read.specs.References.{is_other}
+use Rattle.std.specs.List.{list_all}
 use Rattle.xt_read.specs.PlainTest.{HasPlainParts, HaveTags, ArePlaced}
 
 -- ---- every element of a reading has a tag
@@ -23,20 +27,25 @@ use Rattle.xt_read.specs.PlainTest.{HasPlainParts, HaveTags, ArePlaced}
 content_tags : (level : ℕ) (list : Items) → IsContent level list → HaveTags list
 content_tags level nil is = tt
 content_tags level (element o k c rest) is = (is.0.element, content_tags (suc level) k is.1, content_tags level rest is.2)
-content_tags level (leaf text_item t rest) is = content_tags level rest is.2
+content_tags level (leaf text_item t rest) is = (is.0, content_tags level rest is.2)
 content_tags level (leaf reference_item t rest) is = content_tags level rest is.2
 content_tags level (leaf gap t rest) is = absurd is
-content_tags level (leaf comment_item t rest) is = absurd is
-content_tags level (leaf pi_item t rest) is = absurd is
+content_tags level (leaf comment_item t rest) is = content_tags level rest is.1
+content_tags level (leaf pi_item t rest) is = content_tags level rest is.1
 
-pub top_tags : (came : Bool) (list : Items) → IsTop came list → HaveTags list
-top_tags came nil is = tt
-top_tags came (element o k c rest) is = (is.1.element, content_tags 1 k is.2, top_tags true rest is.3)
-top_tags came (leaf gap t rest) is = top_tags came rest is.2
-top_tags came (leaf text_item t rest) is = absurd is
-top_tags came (leaf reference_item t rest) is = absurd is
-top_tags came (leaf comment_item t rest) is = absurd is
-top_tags came (leaf pi_item t rest) is = absurd is
+top_tags : (stage last : Stage) (list : Items) → Leads stage list last → HaveTags list
+top_tags stage last nil is = tt
+top_tags stage last (element o k c rest) is = (is.1.element, content_tags 1 k is.2, top_tags behind_root last rest is.3)
+top_tags stage last (leaf gap t rest) (inl is) = top_tags before_root last rest is.2
+top_tags stage last (leaf gap t rest) (inr is) = top_tags stage last rest is.2
+top_tags stage last (leaf comment_item t rest) is = top_tags stage last rest is.1
+top_tags stage last (leaf pi_item t rest) is = top_tags stage last rest is.1
+top_tags stage last (leaf text_item t rest) is = absurd is
+top_tags stage last (leaf reference_item t rest) is = absurd is
+
+pub body_tags : (body : Body) (list : Items) → IsBody body list → HaveTags list
+body_tags document_body list is = top_tags before_doctype behind_root list is
+body_tags content_body list is = content_tags 0 list is
 
 -- ---- an element
 
@@ -90,20 +99,24 @@ pub record ItemsLeft (text : List ℕ) (items : List Src) (all : Items) : Type 0
 
 tags_before : (item : Item) (rest : Items) → HaveTags (before item rest) → HaveTags (before item nil) × HaveTags rest
 tags_before (element_item o k c) rest h = ((h.0, h.1, tt), h.2)
-tags_before (leaf_item kind t) rest h = (tt, h)
+tags_before (leaf_item text_item t) rest h = ((h.0, tt), h.1)
+tags_before (leaf_item reference_item t) rest h = (tt, h)
+tags_before (leaf_item comment_item t) rest h = (tt, h)
+tags_before (leaf_item pi_item t) rest h = (tt, h)
+tags_before (leaf_item gap t) rest h = (tt, h)
 
 plain_before : (item : Item) (rest : Items) → IsPlainItems (before item rest) → IsPlainItems (before item nil) × IsPlainItems rest
 plain_before (element_item o k c) rest h = ((h.0, h.1, tt), h.2)
-plain_before (leaf_item text_item t) rest h = (tt, h)
-plain_before (leaf_item gap t) rest h = (tt, h)
+plain_before (leaf_item text_item t) rest h = ((h.0, tt), h.1)
+plain_before (leaf_item gap t) rest h = ((h.0, tt), h.1)
 plain_before (leaf_item reference_item t) rest h = absurd h
 plain_before (leaf_item comment_item t) rest h = absurd h
 plain_before (leaf_item pi_item t) rest h = absurd h
 
 plain_both : (item : Item) (rest : Items) → IsPlainItems (before item nil) → IsPlainItems rest → IsPlainItems (before item rest)
 plain_both (element_item o k c) rest h r = (h.0, h.1, r)
-plain_both (leaf_item text_item t) rest h r = r
-plain_both (leaf_item gap t) rest h r = r
+plain_both (leaf_item text_item t) rest h r = (h.0, r)
+plain_both (leaf_item gap t) rest h r = (h.0, r)
 plain_both (leaf_item reference_item t) rest h r = absurd h
 plain_both (leaf_item comment_item t) rest h r = absurd h
 plain_both (leaf_item pi_item t) rest h r = absurd h
@@ -167,6 +180,14 @@ element_tags text item head kids slice tail is same tags =
     let shape : before (item_of text item) nil ≡ element (at_span text head.span) (items_in text slice) (option_map (at_span text) tail) nil =
     ap (λ i. before (item_of text i) nil) is ∙ ap (λ i. before i nil) (item_element text head kids tail) ∙ ap (λ k. element (at_span text head.span) (items_in text k) (option_map (at_span text) tail) nil) (sym same) in
     let t : HaveTags (element (at_span text head.span) (items_in text slice) (option_map (at_span text) tail) nil) = subst HaveTags shape tags in t.1
+
+-- a text is plain exactly where no `<` stands in it
+pub text_plain : (text : List ℕ) (item : Src) (span : Span) (lacks : Bool) → lacks ≡ list_all (is_other 0x3C) (at_span text span) → item ≡ src.Text span → HaveTags (before (item_of text item) nil) → (IsTrue lacks ↔ IsPlainItems (before (item_of text item) nil))
+text_plain text item span lacks test is tags =
+    let shape : before (item_of text item) nil ≡ leaf text_item (at_span text span) nil = ap (λ i. before (item_of text i) nil) is ∙ ap (λ i. before i nil) (item_text text span) in
+    let t : HaveTags (leaf text_item (at_span text span) nil) = subst HaveTags shape tags in
+    let here = lacks_is_plain (at_span text span) lacks test t.0 in
+    ((λ holds. subst IsPlainItems (sym shape) (here.0 holds, tt)), λ p. let q : IsPlainItems (leaf text_item (at_span text span) nil) = subst IsPlainItems shape p in here.1 q.0)
 
 -- ---- what a call of the recursion asks
 

@@ -6,7 +6,7 @@ use Rattle.xt_read.proofs.TokenSteps.{cut_behind, first_of}
 use Rattle.std.specs.List.{AllByRecursion, concat, slice_range}
 use Rattle.std.specs.Str.{IsCharBoundary}
 use Rattle.xt_spec.specs.Tag.{Attribute, attribute_text, IsAttribute, IsAttValue, IsQuote}
-use Rattle.xt_spec.specs.Text.{parts_text}
+use Rattle.xt_spec.specs.PlainText.{parts_text}
 use Rattle.xt_spec.specs.Value.{AreValueParts, value_of_parts, HasAttributeValue}
 use Rattle.xt_spec.specs.Plain.{is_plain_name, IsPlainAttribute}
 use Rattle.xt_lex.specs.declared.attribute.AttrSrc.{AttrSrc}

@@ -1,13 +1,10 @@
 -- What the crates above cite of this one.
 --
---   reading_is_read, read_is_reading  a reading is what the longest tokens from left to right give, and nothing else is
---   one_tree                          a text has at most one reading
-use Rattle.std.proofs.Common.{◌≡◌, List, ℕ}
-use Rattle.xt_spec.specs.Tree.{Items}
-use Rattle.xt_spec.specs.Reading.{document, IsReading}
-use Rattle.xt_read.proofs.Runs.{one_list}
-pub use Rattle.xt_read.proofs.Complete.{reading_is_read}
-pub use Rattle.xt_read.proofs.Sound.{read_is_reading}
-
-pub one_tree : (text : List ℕ) (a b : Items) → IsReading document text a → IsReading document text b → a ≡ b
-one_tree text a b x y = one_list text a b (reading_is_read text a x) (reading_is_read text b y)
+--   body_is_read, read_is_body  the top of a document, and content, is what the longest tokens from left to right give, and
+--                               nothing else is
+--   comment_begins, pi_begins, doctype_begins, doctype_no_blank  what these leaves begin with
+--   reading_body, body_reading  the reading of a plain document is the top of a document
+--   one_tree                    a text has at most one reading
+pub use Rattle.xt_read.proofs.Complete.{body_is_read, comment_begins, pi_begins, doctype_begins, doctype_no_blank}
+pub use Rattle.xt_read.proofs.Sound.{read_is_body}
+pub use Rattle.xt_read.proofs.Fronts.{reading_body, body_reading, one_tree}

@@ -1,11 +1,11 @@
 -- A token of the code is a token of the run, with its parts and in its place.
-use Rattle.std.proofs.Common.{◌≡◌, ◌∙◌, ℕ, ◌+◌, ◌-◌, ◌≤◌, ◌<◌, List, [], ◌∷◌, ◌++◌, length, take, drop, get_or, get_or-drop, refl, sym, ap, subst, arith, Bool, true, false, ◌⊎◌, inl, inr, append-nil, Option, Some, None, Result, Ok, Err, IsUtf8}
+use Rattle.std.proofs.Common.{◌≡◌, ◌∙◌, ℕ, ◌+◌, ◌-◌, ◌≤◌, ◌<◌, List, [], ◌∷◌, ◌++◌, length, take, drop, get_or, get_or-drop, refl, sym, ap, subst, arith, Bool, true, false, inl, inr, append-nil, Option, Some, None, Result, Ok, Err, IsUtf8}
 use Rattle.std.proofs.lemmas.List.{length-take, length-drop, drop-drop, take-append-drop}
 use Rattle.std.proofs.lemmas.Str.{IsCharBoundary-after_ascii}
 use Rattle.std.specs.Str.{IsCharBoundary}
 use Rattle.xt_spec.specs.Tag.{Tag, IsTag, tag_text}
-use Rattle.xt_spec.specs.Reference.{StandsFor}
-use Rattle.xt_spec.specs.Token.{start_tag, empty_tag, end_tag, char_data, char_ref, entity_ref, Spells, IsLongestFront}
+use Rattle.xt_spec.specs.Reference.{StandsFor, IsPredefined}
+use Rattle.xt_spec.specs.Token.{start_tag, empty_tag, end_tag, Spells, IsLongestFront}
 use Rattle.xt_lex.specs.Kinds.{kind_of}
 use Rattle.xt_lex.specs.declared.token.Span.{Span}
 use Rattle.xt_lex.specs.declared.token.Token.{Token}
@@ -14,16 +14,17 @@ use Rattle.xt_tree.specs.Meaning.{at_span}
 use Rattle.xt_tree.specs.Places.{Mark, tag_mark, span_mark, tail_marks, AreInPlace, IsTagAt, ending}
 use Rattle.xt_tree.proofs.PlaceLemmas.{name_text, attribute_names_text, attributes_stand, tag_stands, in_place-append, in_place-split}
 use Rattle.xt_read.specs.declared.reader.Reader.{Reader}
-use Rattle.xt_read.specs.declared.unread.Unread.{Unread}
-use Rattle.xt_read.specs.declared.unread.Unread.TheVariants.{NotPlain, NoMemory}
-use Rattle.xt_read.specs.Run.{Tok, start_tok, empty_tok, end_tok, data_tok, reference_tok, other_tok, tok_text, IsOfKind, AreTagNames, State, step}
+use Rattle.xt_read.specs.declared.unread.Halt.{Halt}
+use Rattle.xt_read.specs.declared.unread.Halt.TheVariants.{Misplaced, TooDeep, NoMemory}
+use Rattle.xt_read.specs.Run.{Piece, Tok, start_tok, empty_tok, end_tok, piece_tok, tok_text, IsPiece, IsOfKind, AreTagNames, State}
 use Rattle.xt_read.specs.Progress.{Gives, names_at, all_marks, settled_marks, Joins, joined_span, AddsText}
 use Rattle.xt_read.specs.Steps.{IsTagAhead, IsEndTagAhead, IsEndTagNamed, IsTokenAt, IsTok, Takes}
 
 -- what the call answered is a step of the run
-pub takes_by : (text : List ℕ) (token : Token) (s t : State) (tok : Tok) (result : Result (Unit {0}) Unread) → IsTok text token tok → Gives (step s tok) result t → Takes text token s result t
+pub takes_by : (text : List ℕ) (token : Token) (s t : State) (tok : Tok) (result : Result (Unit {0}) Halt) → IsTok text token tok → Gives s tok result t → Takes text token s result t
 takes_by text token s t tok (Ok x) is gives = (tok, is, gives)
-takes_by text token s t tok (Err NotPlain) is gives = (tok, is, gives)
+takes_by text token s t tok (Err Misplaced) is gives = (tok, is, gives.0, gives.1)
+takes_by text token s t tok (Err TooDeep) is gives = (tok, is, gives)
 takes_by text token s t tok (Err NoMemory) is gives = tt
 
 -- ---- the text of a token
@@ -39,7 +40,7 @@ pub spelled_at : (text : List ℕ) (token : Token) → (is : IsTokenAt text toke
 spelled_at text token is = subst (Spells (kind_of token.kind)) (sym (token_text text token is)) is.longest.front.spelled
 
 -- .. and stands there, with something behind it
-stands_at : (text : List ℕ) (token : Token) → (is : IsTokenAt text token) → drop token.span.from text ≡ at_span text token.span ++ drop is.size (drop token.span.from text)
+pub stands_at : (text : List ℕ) (token : Token) → (is : IsTokenAt text token) → drop token.span.from text ≡ at_span text token.span ++ drop is.size (drop token.span.from text)
 stands_at text token is = sym (take-append-drop is.size (drop token.span.from text)) ∙ ap (λ t. t ++ drop is.size (drop token.span.from text)) (sym (token_text text token is))
 
 -- the token of the run
@@ -129,41 +130,40 @@ empty_tok_is text token source is kind span empty at =
 pub end_tok_is : (text : List ℕ) (token : Token) (name : Span) → IsTokenAt text token → kind_of token.kind ≡ end_tag → IsEndTagNamed text token.span (at_span text name) → IsTok text token (end_tok (at_span text token.span) (at_span text name))
 end_tok_is text token name is kind named = tok_is text token (end_tok (at_span text token.span) (at_span text name)) is refl (kind, named.0, named.1)
 
-pub data_tok_is : (text : List ℕ) (token : Token) → IsTokenAt text token → kind_of token.kind ≡ char_data → IsTok text token (data_tok (at_span text token.span))
-data_tok_is text token is kind = tok_is text token (data_tok (at_span text token.span)) is refl kind
+-- a token that is no tag
+pub piece_is : (text : List ℕ) (token : Token) (piece : Piece) → IsTokenAt text token → IsPiece (kind_of token.kind) piece (at_span text token.span) → IsTok text token (piece_tok piece (at_span text token.span))
+piece_is text token piece is of_kind = tok_is text token (piece_tok piece (at_span text token.span)) is refl of_kind
 
-pub reference_tok_is : (text : List ℕ) (token : Token) → IsTokenAt text token → ((kind_of token.kind ≡ char_ref) ⊎ (kind_of token.kind ≡ entity_ref)) → (c : ℕ) × StandsFor (at_span text token.span) c → IsTok text token (reference_tok (at_span text token.span))
-reference_tok_is text token is kind (c, stands) = tok_is text token (reference_tok (at_span text token.span)) is refl (kind, c, stands)
-
-pub other_tok_is : (text : List ℕ) (token : Token) → IsTokenAt text token → kind_of token.kind ≡ entity_ref → ((c : ℕ) → ¬ StandsFor (at_span text token.span) c) → IsTok text token (other_tok (at_span text token.span))
-other_tok_is text token is kind none = tok_is text token (other_tok (at_span text token.span)) is refl (kind, λ c predefined. none c (inr predefined))
+-- a reference to an entity that stands for no character is none of the predefined
+pub other_is : (t : List ℕ) → ((c : ℕ) → ¬ StandsFor t c) → (c : ℕ) → ¬ IsPredefined t c
+other_is t none c predefined = none c (inr predefined)
 
 -- ---- places
 
-pub tag_placed : (bytes : List ℕ) (from to : ℕ) (old new : List Mark) (head : TagSrc) → AreInPlace bytes 0 old from → IsTagAt bytes from head → head.span.to ≡ to → new ≡ old ++ tag_mark head ∷ [] → AreInPlace bytes 0 new to
-tag_placed bytes from to old new head before at end is =
-    subst (λ m. AreInPlace bytes 0 m to) (sym is) (in_place-append bytes 0 from to old (tag_mark head ∷ []) before (at, end))
+pub tag_placed : (bytes : List ℕ) (start from to : ℕ) (old new : List Mark) (head : TagSrc) → AreInPlace bytes start old from → IsTagAt bytes from head → head.span.to ≡ to → new ≡ old ++ tag_mark head ∷ [] → AreInPlace bytes start new to
+tag_placed bytes start from to old new head before at end is =
+    subst (λ m. AreInPlace bytes start m to) (sym is) (in_place-append bytes start from to old (tag_mark head ∷ []) before (at, end))
 
-pub span_placed : (bytes : List ℕ) (old new : List Mark) (span : Span) → AreInPlace bytes 0 old span.from → span.from ≤ span.to → new ≡ old ++ span_mark span ∷ [] → AreInPlace bytes 0 new span.to
-span_placed bytes old new span before ordered is =
-    subst (λ m. AreInPlace bytes 0 m span.to) (sym is) (in_place-append bytes 0 span.from span.to old (span_mark span ∷ []) before (refl, ordered, refl))
+pub span_placed : (bytes : List ℕ) (start : ℕ) (old new : List Mark) (span : Span) → AreInPlace bytes start old span.from → span.from ≤ span.to → new ≡ old ++ span_mark span ∷ [] → AreInPlace bytes start new span.to
+span_placed bytes start old new span before ordered is =
+    subst (λ m. AreInPlace bytes start m span.to) (sym is) (in_place-append bytes start span.from span.to old (span_mark span ∷ []) before (refl, ordered, refl))
 
-joins_by : (bytes : List ℕ) (settled : List Mark) (text : Option Span) (span : Span) → AreInPlace bytes 0 (settled ++ tail_marks text) span.from → span.from ≤ span.to → Joins text span
-joins_by bytes settled None span place ordered = ordered
-joins_by bytes settled (Some text) span place ordered = let (mid, first, last) = in_place-split bytes 0 span.from settled (span_mark text ∷ []) place in
+joins_by : (bytes : List ℕ) (start : ℕ) (settled : List Mark) (text : Option Span) (span : Span) → AreInPlace bytes start (settled ++ tail_marks text) span.from → span.from ≤ span.to → Joins text span
+joins_by bytes start settled None span place ordered = ordered
+joins_by bytes start settled (Some text) span place ordered = let (mid, first, last) = in_place-split bytes start span.from settled (span_mark text ∷ []) place in
     let from_is : text.from ≡ mid = last.0 in (omega (arith, last.0, last.1), last.2, ordered)
 
 -- the text item that goes on ends where the token begins
-pub joins : (bytes : List ℕ) (reader : Reader) (span : Span) → AreInPlace bytes 0 (all_marks reader) span.from → span.from ≤ span.to → Joins reader.text span
-joins bytes reader span place ordered = joins_by bytes (settled_marks reader) reader.text span place ordered
+pub joins : (bytes : List ℕ) (start : ℕ) (reader : Reader) (span : Span) → AreInPlace bytes start (all_marks reader) span.from → span.from ≤ span.to → Joins reader.text span
+joins bytes start reader span place ordered = joins_by bytes start (settled_marks reader) reader.text span place ordered
 
-longer_placed : (bytes : List ℕ) (settled new : List Mark) (text : Option Span) (span : Span) → AreInPlace bytes 0 (settled ++ tail_marks text) span.from → span.from ≤ span.to → new ≡ settled ++ span_mark (joined_span text span) ∷ [] → AreInPlace bytes 0 new span.to
-longer_placed bytes settled new None span place ordered is = span_placed bytes settled new span (subst (λ m. AreInPlace bytes 0 m span.from) (append-nil settled) place) ordered is
-longer_placed bytes settled new (Some text) span place ordered is =
-    let (mid, first, last) = in_place-split bytes 0 span.from settled (span_mark text ∷ []) place in
+longer_placed : (bytes : List ℕ) (start : ℕ) (settled new : List Mark) (text : Option Span) (span : Span) → AreInPlace bytes start (settled ++ tail_marks text) span.from → span.from ≤ span.to → new ≡ settled ++ span_mark (joined_span text span) ∷ [] → AreInPlace bytes start new span.to
+longer_placed bytes start settled new None span place ordered is = span_placed bytes start settled new span (subst (λ m. AreInPlace bytes start m span.from) (append-nil settled) place) ordered is
+longer_placed bytes start settled new (Some text) span place ordered is =
+    let (mid, first, last) = in_place-split bytes start span.from settled (span_mark text ∷ []) place in
     let order : mid ≤ span.to = omega (arith, last.1, last.2, ordered) in
-    subst (λ m. AreInPlace bytes 0 m span.to) (sym is) (in_place-append bytes 0 mid span.to settled (span_mark (record { from = text.from; to = span.to }) ∷ []) first (last.0, order, refl))
+    subst (λ m. AreInPlace bytes start m span.to) (sym is) (in_place-append bytes start mid span.to settled (span_mark (record { from = text.from; to = span.to }) ∷ []) first (last.0, order, refl))
 
-pub text_placed : (bytes : List ℕ) (old new : Reader) (span : Span) → AreInPlace bytes 0 (all_marks old) span.from → span.from ≤ span.to → AddsText old span new → AreInPlace bytes 0 (all_marks new) span.to
-text_placed bytes old new span place ordered (inl is) = span_placed bytes (all_marks old) (all_marks new) span place ordered is
-text_placed bytes old new span place ordered (inr is) = longer_placed bytes (settled_marks old) (all_marks new) old.text span place ordered is
+pub text_placed : (bytes : List ℕ) (start : ℕ) (old new : Reader) (span : Span) → AreInPlace bytes start (all_marks old) span.from → span.from ≤ span.to → AddsText old span new → AreInPlace bytes start (all_marks new) span.to
+text_placed bytes start old new span place ordered (inl is) = span_placed bytes start (all_marks old) (all_marks new) span place ordered is
+text_placed bytes start old new span place ordered (inr is) = longer_placed bytes start (settled_marks old) (all_marks new) old.text span place ordered is

@@ -7,7 +7,7 @@ use Rattle.xt_spec.specs.Char.{is_name_start_char, is_name_char, is_not_colon}
 use Rattle.xt_spec.specs.Name.{IsSpeltBy, IsNCName, are_name_chars}
 use Rattle.xt_spec.specs.Reference.{NamesChar, StandsFor, is_decimal_digit, is_hexadecimal_digit}
 use Rattle.xt_spec.specs.Tag.{IsValuePart, IsReference, is_value_char}
-use Rattle.xt_spec.specs.Text.{TextPart, data_part, reference_part, parts_text, begins_with_data}
+use Rattle.xt_spec.specs.PlainText.{PlainPart, data_part, reference_part, parts_text, begins_with_data}
 use Rattle.xt_spec.specs.Value.{AreValueParts}
 use Rattle.xt_lex.proofs.Spelling.{bytes_lack, spelt_joined, spelt_char, list_all_behind, list_all_weaker}
 use Rattle.xt_read.specs.References.{is_other, LacksByte, HasParts, AreSingles, Edge, BeginsReference, HasNoParts, IsSame, IsUpToSemicolon}
@@ -144,7 +144,7 @@ strip : (q : ℕ) (singles : List (List ℕ)) → AllByRecursion (IsValuePart q)
 strip q [] are = record { run = []; rest = []; joined = refl; spelt = ([], refl, refl); edge = tt; left = []; singles = (tt, refl); first = inl refl }
 strip q (s ∷ ss) are = strip_one q s ss are.1 are.0 (strip q ss are.1)
 
-edge_parts : (q : ℕ) (parts : List TextPart) → AreValueParts q parts → begins_with_data parts ≡ false → Edge (parts_text parts)
+edge_parts : (q : ℕ) (parts : List PlainPart) → AreValueParts q parts → begins_with_data parts ≡ false → Edge (parts_text parts)
 edge_parts q [] are none = tt
 edge_parts q (data_part t ∷ ps) are none = absurd (let h : true ≡ false = none in cc)
 edge_parts q (reference_part t c ∷ ps) are none = edge_reference t (parts_text ps) (stands_shaped t c are.0)
@@ -162,7 +162,7 @@ parts_behind q run rest lacks edge (reference_part t c ∷ ps, are, e) =
     let same = edge_same [] run (t ++ parts_text ps) rest refl lacks (edge_reference t (parts_text ps) (stands_shaped t c are.0)) edge e in
     (reference_part t c ∷ ps, are, same.1)
 
-no_data_at_edge : (q : ℕ) (parts : List TextPart) → AreValueParts q parts → Edge (parts_text parts) → begins_with_data parts ≡ false
+no_data_at_edge : (q : ℕ) (parts : List PlainPart) → AreValueParts q parts → Edge (parts_text parts) → begins_with_data parts ≡ false
 no_data_at_edge q [] are edge = refl
 no_data_at_edge q (data_part [] ∷ ps) are edge = absurd (are.1 refl)
 no_data_at_edge q (data_part (b ∷ t) ∷ ps) are edge = absurd ((other_than 0x26 b t (chars_lack q (b ∷ t) are.0)).0 edge)

@@ -1,24 +1,62 @@
 -- What a reader has at the end of the text.
-use Rattle.std.proofs.Common.{◌≡◌, ◌∙◌, ℕ, List, [], ◌∷◌, length, map, reverse, refl, sym, ap, true, false, ⊎_elim}
+use Rattle.std.proofs.Common.{◌≡◌, ◌∙◌, ℕ, ◌≤◌, List, [], ◌∷◌, length, map, drop, refl, inr, subst, sym, ap, arith, true, false, option_map}
 use Rattle.std.proofs.lemmas.List.{length-reverse, length-map}
-use Rattle.std.proofs.lemmas.Bool.{cases_Bool}
-use Rattle.xt_spec.specs.Tree.{Items}
+use Rattle.std.proofs.Math.ListN.{drop_of_length-le}
+use Rattle.xt_spec.specs.Tree.{items_of}
+use Rattle.xt_tree.specs.declared.source.Src.{Src}
+use Rattle.xt_tree.specs.Meaning.{at_span, item_of, items_in}
 use Rattle.xt_read.specs.declared.reader.Frame.{Frame}
 use Rattle.xt_read.specs.declared.reader.Reader.{Reader}
-use Rattle.xt_read.specs.Progress.{state_of, element_of}
-use Rattle.xt_read.specs.Run.{begin, Reads, IsRead}
-use Rattle.xt_read.proofs.Runs.{not_closed, not_come}
+use Rattle.xt_read.specs.declared.unread.Unread.TheVariants.{NotWellFormed, NoMemory}
+use Rattle.xt_read.specs.Progress.{element_of, state_of}
+use Rattle.xt_read.specs.Run.{Body, OpenElement, State, begin, with_text, is_top, IsWhole, IsRead}
+use Rattle.xt_read.specs.Faults.{Passes, here, IsHalt, IsBodyFault}
+use Rattle.xt_read.proofs.Runs.{passes_all}
 
 none_of_length : (frames : List Frame) → length frames ≡ 0 → frames ≡ []
 none_of_length [] e = refl
 none_of_length (f ∷ fs) e = absurd (cc)
 
-frames_none : (bytes : List ℕ) (frames : List Frame) → reverse (map (element_of bytes) frames) ≡ [] → frames ≡ []
-frames_none bytes frames none = none_of_length frames (sym (length-reverse (map (element_of bytes) frames) ∙ length-map frames (element_of bytes)) ∙ ap length none)
+none_on_top : (opened : List OpenElement) → is_top opened ≡ true → opened ≡ []
+none_on_top [] is = refl
+none_on_top (e ∷ es) is = absurd (let h : false ≡ true = is in cc)
 
--- a reader with an open element, or that met no document element, has read no document
-pub not_whole : (text : List ℕ) (list : Items) (reader : Reader) → Reads begin text (state_of text reader) → ((reader.opened.items ≡ []) × (reader.came ≡ true) → ⊥) → IsRead text list → ⊥
-not_whole text list reader run never is =
-    ⊎_elim (λ (came : reader.came ≡ true). not_closed text list (state_of text reader) run (λ none. never (frames_none text reader.opened.items none, came)) is)
-    (λ (none : reader.came ≡ false). not_come text list (state_of text reader) run none is)
-    (cases_Bool reader.came)
+-- at the top no element is open
+pub no_frames : (bytes : List ℕ) (reader : Reader) → is_top (state_of bytes reader).opened ≡ true → reader.opened.items ≡ []
+no_frames bytes reader is =
+    none_of_length reader.opened.items (sym (length-reverse (map (element_of bytes) reader.opened.items) ∙ length-map reader.opened.items (element_of bytes)) ∙ ap length (none_on_top (state_of bytes reader).opened is))
+
+-- what was read to the end of the text
+pub is_read : (body : Body) (text : List ℕ) (from : ℕ) (reader : Reader) (settled items : List Src) → Passes (begin body) (drop from text) (state_of text reader) [] → IsWhole (state_of text reader) → map (item_of text) settled ≡ with_text (map (item_of text) reader.items) (option_map (at_span text) reader.text) → items ≡ settled
+    → IsRead body (drop from text) (items_in text items)
+is_read body text from reader settled items passes whole all same = record {
+  last = state_of text reader;
+  reads = passes_all (begin body) (state_of text reader) (drop from text) passes;
+  whole = whole;
+  are = sym (ap (λ (l : List Src). items_in text l) same ∙ ap items_of all);
+}
+
+-- memory may run out at any point
+pub out_of_memory : (body : Body) (text : List ℕ) (from : ℕ) → from ≤ length text → IsBodyFault body text from NoMemory
+out_of_memory body text from within = record {
+  at = from;
+  order = omega arith;
+  within = within;
+  state = begin body;
+  passes = here (begin body) (drop from text);
+  halts = tt;
+}
+
+-- where something is left open, the text ends too early
+pub ends_early : (body : Body) (text : List ℕ) (from : ℕ) (s : State) → from ≤ length text → Passes (begin body) (drop from text) s [] → (IsWhole s → ⊥) → IsBodyFault body text from (NotWellFormed (length text))
+ends_early body text from s within passes never =
+    let size : length text ≤ length text = omega arith in
+    let none : drop (length text) text ≡ [] = drop_of_length-le text size in
+    record {
+      at = length text;
+      order = within;
+      within = size;
+      state = s;
+      passes = subst (λ (r : List ℕ). Passes (begin body) (drop from text) s r) (sym none) passes;
+      halts = (refl, subst (λ (r : List ℕ). IsHalt s r) (sym none) (inr (inr (refl, never))));
+    }

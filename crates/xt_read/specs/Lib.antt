@@ -3,3 +3,6 @@ pub mod Progress
 pub mod Steps
 pub mod References
 pub mod PlainTest
+pub mod Faults
+pub mod Front
+pub mod FrontSteps

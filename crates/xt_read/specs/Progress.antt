@@ -1,19 +1,35 @@
 -- What a reader's state means in the bytes of its file: the state of a run, and where its marks have to stand.
 --
+--   stage_of   how far the top of a document has come
+--   body_of    what is read
 --   state_of   the state
 --   Gives      a step of the run is what a call answered
 --   all_marks  the tags and spans of all that was read, in document order
-use Rattle.std.specs.Prelude.{◌≡◌, ◌≤◌, ◌⊎◌, ℕ, List, [], ◌∷◌, ◌++◌, map, reverse, Option, Some, None, option_map, Result, Ok, Err, Bool, true, not, ◌&&◌, bytes_eq}
+use Rattle.std.specs.Prelude.{◌≡◌, ◌≤◌, ◌⊎◌, ℕ, List, [], ◌∷◌, ◌++◌, map, reverse, Option, Some, None, option_map, Result, Ok, Err, Bool, true, false, not, ◌&&◌, bytes_eq}
 use Rattle.std.specs.List.{list_any}
 use Rattle.xt_lex.specs.declared.token.Span.{Span}
 use Rattle.xt_lex.specs.declared.attribute.AttrSrc.{AttrSrc}
 use Rattle.xt_tree.specs.Meaning.{at_span, item_of}
-use Rattle.xt_tree.specs.Places.{Mark, tag_mark, span_mark, tail_marks, marks_of}
-use Rattle.xt_read.specs.Run.{OpenElement, State}
+use Rattle.xt_tree.specs.Places.{Mark, tag_mark, span_mark, tail_marks, marks_of, AreInPlace}
+use Rattle.xt_spec.specs.Reading.{Stage, before_doctype, before_root, behind_root}
+use Rattle.xt_read.specs.Run.{Body, document_body, content_body, OpenElement, State, Tok, is_too_deep, step}
 use Rattle.xt_read.specs.declared.reader.Frame.{Frame}
 use Rattle.xt_read.specs.declared.reader.Reader.{Reader}
-use Rattle.xt_read.specs.declared.unread.Unread.{Unread}
-use Rattle.xt_read.specs.declared.unread.Unread.TheVariants.{NotPlain, NoMemory}
+use Rattle.xt_read.specs.declared.stage.Stage.{Stage as StageOfCode}
+use Rattle.xt_read.specs.declared.stage.Stage.TheVariants as code
+use Rattle.xt_read.specs.declared.stage.Body.{Body as BodyOfCode}
+use Rattle.xt_read.specs.declared.stage.Body.TheVariants as body
+use Rattle.xt_read.specs.declared.unread.Halt.{Halt}
+use Rattle.xt_read.specs.declared.unread.Halt.TheVariants.{Misplaced, TooDeep, NoMemory}
+
+abbrev pub stage_of : StageOfCode → Stage
+stage_of code.BeforeDoctype = before_doctype
+stage_of code.BeforeRoot = before_root
+stage_of code.BehindRoot = behind_root
+
+abbrev pub body_of : BodyOfCode → Body
+body_of body.Document = document_body
+body_of body.Content = content_body
 
 abbrev pub element_of : List ℕ → Frame → OpenElement
 element_of bytes frame = record { open_tag = at_span bytes frame.head.span; name = at_span bytes frame.head.name; before = map (item_of bytes) frame.before }
@@ -23,7 +39,7 @@ state_of bytes reader = record {
   opened = reverse (map (element_of bytes) reader.opened.items);
   items = map (item_of bytes) reader.items;
   text = option_map (at_span bytes) reader.text;
-  came = reader.came;
+  stage = option_map stage_of reader.stage;
 }
 
 -- the names of the attributes
@@ -35,11 +51,12 @@ abbrev pub are_apart : List ℕ → List AttrSrc → Bool
 are_apart bytes [] = true
 are_apart bytes (a ∷ others) = not (list_any (λ other. bytes_eq (at_span bytes a.name) (at_span bytes other.name)) others) && are_apart bytes others
 
--- a step gave this state, or there is none, unless memory ran out
-abbrev pub Gives : Option State → Result (Unit {0}) Unread → State → Type 0
-Gives step (Ok _) new = step ≡ Some new
-Gives step (Err NotPlain) new = step ≡ None
-Gives step (Err NoMemory) new = Unit {0}
+-- the token led to this state, or may not stand, unless memory ran out
+abbrev pub Gives : State → Tok → Result (Unit {0}) Halt → State → Type 0
+Gives s tok (Ok _) new = step s tok ≡ Some new
+Gives s tok (Err Misplaced) new = (step s tok ≡ None) × (is_too_deep s tok ≡ false)
+Gives s tok (Err TooDeep) new = is_too_deep s tok ≡ true
+Gives s tok (Err NoMemory) new = Unit {0}
 
 -- the open elements' marks, the outermost first, each behind those of the items before it
 abbrev pub frame_marks : List Frame → List Mark
@@ -68,3 +85,11 @@ joined_span (Some text) span = record { from = text.from; to = span.to }
 abbrev pub AddsText : Reader → Span → Reader → Type 0
 AddsText old span new = (all_marks new ≡ all_marks old ++ span_mark span ∷ [])
     ⊎ (all_marks new ≡ settled_marks old ++ span_mark (joined_span old.text span) ∷ [])
+
+-- all that was read stands in its place, up to this one
+abbrev pub IsPlaced : List ℕ → Reader → ℕ → Type 0
+IsPlaced bytes reader at = (from : ℕ) × AreInPlace bytes from (all_marks reader) at
+
+-- what stood in its place up to one place stands so with what was read on to another
+abbrev pub PlacesOn : List ℕ → Reader → Reader → ℕ → ℕ → Type 0
+PlacesOn bytes old new at to = (from : ℕ) → AreInPlace bytes from (all_marks old) at → AreInPlace bytes from (all_marks new) to

@@ -3,7 +3,7 @@
 --   IsTagAhead  a tag stands at a place, and something behind it
 --   IsTagSoFar  .. and its attributes are known up to another place
 --   Takes       the token is the longest at its place, and the run went on with it, or may not
-use Rattle.std.specs.Prelude.{◌≡◌, ◌<◌, ◌≤◌, ◌^◌, ℕ, ◌+◌, List, ◌++◌, length, drop, map, Result, Ok, Err, Some, None, Bool}
+use Rattle.std.specs.Prelude.{◌≡◌, ◌<◌, ◌≤◌, ◌^◌, ℕ, ◌+◌, List, ◌++◌, length, drop, map, Result, Ok, Err, Some, None, Bool, true, false}
 use Rattle.std.specs.List.{concat}
 use Rattle.xt_spec.specs.Name.{IsQName}
 use Rattle.xt_spec.specs.Tag.{Attribute, attribute_text, Tag, IsTag, tag_text, IsEndTag}
@@ -15,9 +15,9 @@ use Rattle.xt_lex.specs.declared.attribute.AttrSrc.{AttrSrc}
 use Rattle.xt_lex.specs.declared.token.Span.{Span}
 use Rattle.xt_tree.specs.Meaning.{at_span}
 use Rattle.xt_tree.specs.Places.{AreAttributesAt, ending}
-use Rattle.xt_read.specs.Run.{Tok, tok_text, IsToken, State, step}
-use Rattle.xt_read.specs.declared.unread.Unread.{Unread}
-use Rattle.xt_read.specs.declared.unread.Unread.TheVariants.{NotPlain, NoMemory}
+use Rattle.xt_read.specs.Run.{Tok, tok_text, IsToken, State, is_too_deep, step}
+use Rattle.xt_read.specs.declared.unread.Halt.{Halt}
+use Rattle.xt_read.specs.declared.unread.Halt.TheVariants.{Misplaced, TooDeep, NoMemory}
 
 -- from one place of the text to another a tag stands, which ends so
 pub record IsTagAhead (text : List ℕ) (from to : ℕ) (empty : Bool) : Type 0 where
@@ -68,7 +68,8 @@ pub record IsTok (text : List ℕ) (token : Token) (tok : Tok) : Type 0 where
   pub to : token.span.to ≡ token.span.from + length (tok_text tok)
 
 -- the run goes on with the token, or the token may not stand; memory may run out
-abbrev pub Takes : List ℕ → Token → State → Result (Unit {0}) Unread → State → Type 0
+abbrev pub Takes : List ℕ → Token → State → Result (Unit {0}) Halt → State → Type 0
 Takes text token s (Ok _) t = (tok : Tok) × IsTok text token tok × (step s tok ≡ Some t)
-Takes text token s (Err NotPlain) t = (tok : Tok) × IsTok text token tok × (step s tok ≡ None)
+Takes text token s (Err Misplaced) t = (tok : Tok) × IsTok text token tok × (step s tok ≡ None) × (is_too_deep s tok ≡ false)
+Takes text token s (Err TooDeep) t = (tok : Tok) × IsTok text token tok × (is_too_deep s tok ≡ true)
 Takes text token s (Err NoMemory) t = Unit {0}

@@ -1,33 +1,25 @@
-//! A plain document: the items of its text, and its answer where it is none.
+//! Documents, external parsed entities and texts: the items of a file in its role, or its first fault.
 
-ghost use Rattle.std.specs.Prelude.{◌≡◌, ◌<◌, ◌≤◌, ◌+◌, ◌^◌, ◌==◌, not, length, nat_eq, List, ℕ, []};
-ghost use Rattle.std.specs.Prelude.{IfOk, ◌∷◌, true};
-ghost use Rattle.std.specs.List.{list_all, starts_with};
-ghost use Rattle.xt_spec.specs.Tree.{Items as SyntaxItems};
-ghost use Rattle.xt_spec.specs.Reading.{document, IsReading};
-ghost use Rattle.xt_spec.specs.Plain.{IsPlainItems, node_count, IsPlainDocument};
+ghost use Rattle.std.specs.Prelude.{◌≡◌, ◌<◌, ◌+◌, ◌++◌, ◌^◌, length, IfOk, IfErr};
+ghost use Rattle.xt_spec.specs.Tree.{source_text};
+ghost use Rattle.xt_spec.specs.Reading.{document, entity, IsOrdered, IsReading};
 ghost use Rattle.xt_tree.specs.Meaning.{items_in};
 ghost use Rattle.xt_tree.specs.Places.{marks_of, AreInPlace};
+ghost use Rattle.xt_read.specs.declared.front.FileRole.TheVariants as role;
+ghost use Rattle.xt_read.specs.Front.{role_of};
+ghost use Rattle.xt_read.specs.Faults.{IsTextFault, IsFaultOf};
 
-use crate::items::read_items;
-use crate::nodes::nodes_left;
-use crate::plain::are_plain;
+use crate::front::{FileRole, Front, read_front};
+use crate::items::read_body;
 use crate::unread::Unread;
-use memchr::memchr;
 use sqlite_items::Items;
-use std::alloc::Global;
+use std::alloc::{AllocError, Global};
 use std::sync::ledger::Ledger;
-use xt_lex::{Steps, text_of};
+use xt_lex::{NotUtf8, Steps, text_of};
 use xt_tree::Src;
 
-/// The most bytes that a file may have.
-const MOST_BYTES: usize = 4_194_304;
-
-/// The most nodes that a document may have.
-const MOST_NODES: u32 = 1_000_000;
-
 /// Counts each byte.
-fn count<L: Ledger>(bytes: &[u8], steps: &mut Steps<L>)
+pub(crate) fn count<L: Ledger>(bytes: &[u8], steps: &mut Steps<L>)
     ensures { steps.new ≡ steps.old + length bytes.now }
 {
     for _b in bytes {
@@ -35,62 +27,85 @@ fn count<L: Ledger>(bytes: &[u8], steps: &mut Steps<L>)
     }
 }
 
-/// Whether the file begins with a byte order mark.
-fn has_mark(bytes: &[u8]) -> bool
-    ensures { result ≡ starts_with nat_eq bytes.now (0xEF ∷ 0xBB ∷ 0xBF ∷ []) }
+/// The items behind the gaps in front.
+fn joined(front: Front, items: Items<Src>) -> Result<Items<Src>, AllocError>
+    ensures { IfOk result (λ all. all ≡ front.gaps ++ items) }
 {
-    bytes.starts_with(b"\xEF\xBB\xBF")
+    let Front { gaps, .. } = front;
+    if gaps.is_empty() {
+        return Ok(items);
+    }
+    let mut all = gaps;
+    all.append(items)?;
+    Ok(all)
 }
 
-fn lacks_cr(bytes: &[u8]) -> bool
-    ensures { result ≡ list_all (λ b. not (b == 0xD)) bytes.now }
-{
-    memchr(b'\r', bytes).is_none()
-}
-
-/// The items of a text that is a document of plain items, not too many.
-fn read_plain(alloc: Global, text: &str) -> Result<Items<Src>, Unread>
+/// The items of a text in its role.
+fn read_text_as(alloc: Global, text: &str, role: FileRole) -> Result<Items<Src>, Unread>
     requires fits { length text.now < 2 ^ 32 }
-    ensures value { IfOk result (λ items. IsReading document text.now (items_in text.now items)) }
-    ensures plain { IfOk result (λ items. IsPlainItems (items_in text.now items)) }
-    ensures nodes { IfOk result (λ items. node_count (items_in text.now items) ≤ 1000000) }
+    ensures value { IfOk result (λ items. IsOrdered (role_of role) (items_in text.now items) × (source_text (items_in text.now items) ≡ text.now)) }
     ensures place { IfOk result (λ items. AreInPlace text.now 0 (marks_of items) (length text.now)) }
-    ensures fault { result ≡ Err Unread.NotPlain → (list : SyntaxItems) → IsReading document text.now list → IsPlainItems list → node_count list ≤ 1000000 → ⊥ }
+    ensures fault { IfErr result (IsTextFault role text.now) }
 {
-    let items = match read_items(alloc, text) {
+    let front = match read_front(alloc, text, role) {
+        Ok(front) => front,
+        Err(unread) => return Err(unread),
+    };
+    let items = match read_body(alloc, text, front.to, role.body()) {
         Ok(items) => items,
         Err(unread) => return Err(unread),
     };
-    if !are_plain(items.as_slice(), text) {
-        return Err(Unread::NotPlain);
-    }
-    match nodes_left(items.as_slice(), MOST_NODES) {
-        Some(_) => Ok(items),
-        None => Err(Unread::NotPlain),
+    match joined(front, items) {
+        Ok(all) => Ok(all),
+        Err(_) => Err(Unread::NoMemory),
     }
 }
 
-/// The items of a plain document, with their places in its bytes.
+/// The items of a file in its role.
+fn read_as(alloc: Global, bytes: &[u8], role: FileRole) -> Result<Items<Src>, Unread>
+    requires fits { length bytes.now < 2 ^ 32 }
+    ensures value { IfOk result (λ items. IsReading (role_of role) bytes.now (items_in bytes.now items)) }
+    ensures place { IfOk result (λ items. AreInPlace bytes.now 0 (marks_of items) (length bytes.now)) }
+    ensures fault { IfErr result (IsFaultOf role bytes.now) }
+{
+    match text_of(bytes) {
+        Ok(text) => read_text_as(alloc, text, role),
+        Err(NotUtf8 { at }) => Err(Unread::NotUtf8 { at }),
+    }
+}
+
+/// The items of a document, with their places in its bytes, or its first fault.
 ///
-/// Each byte counts one step, whatever the answer. `NotPlain` comes exactly where the bytes are no plain document, as
-/// `<a>]]></a>`; want of memory may come before it.
+/// Each byte counts one step, whatever the answer; want of memory may come before any other.
 pub fn read_document<L: Ledger>(
     alloc: Global,
     bytes: &[u8],
     steps: &mut Steps<L>,
 ) -> Result<Items<Src>, Unread>
     requires fits { length bytes.now < 2 ^ 32 }
-    ensures value { IfOk result (λ items. IsPlainDocument bytes.now (items_in bytes.now items)) }
+    ensures value { IfOk result (λ items. IsReading document bytes.now (items_in bytes.now items)) }
     ensures place { IfOk result (λ items. AreInPlace bytes.now 0 (marks_of items) (length bytes.now)) }
-    ensures fault { result ≡ Err Unread.NotPlain → (list : SyntaxItems) → IsPlainDocument bytes.now list → ⊥ }
+    ensures fault { IfErr result (IsFaultOf role.Document bytes.now) }
     ensures count { steps.new ≡ steps.old + length bytes.now }
 {
     count(bytes, steps);
-    if bytes.len() > MOST_BYTES || has_mark(bytes) || !lacks_cr(bytes) {
-        return Err(Unread::NotPlain);
-    }
-    match text_of(bytes) {
-        Ok(text) => read_plain(alloc, text),
-        Err(_) => Err(Unread::NotPlain),
-    }
+    read_as(alloc, bytes, FileRole::Document)
+}
+
+/// The items of an external parsed entity, with their places in its bytes, or its first fault.
+///
+/// Each byte counts one step, whatever the answer; want of memory may come before any other.
+pub fn read_entity<L: Ledger>(
+    alloc: Global,
+    bytes: &[u8],
+    steps: &mut Steps<L>,
+) -> Result<Items<Src>, Unread>
+    requires fits { length bytes.now < 2 ^ 32 }
+    ensures value { IfOk result (λ items. IsReading entity bytes.now (items_in bytes.now items)) }
+    ensures place { IfOk result (λ items. AreInPlace bytes.now 0 (marks_of items) (length bytes.now)) }
+    ensures fault { IfErr result (IsFaultOf role.Entity bytes.now) }
+    ensures count { steps.new ≡ steps.old + length bytes.now }
+{
+    count(bytes, steps);
+    read_as(alloc, bytes, FileRole::Entity)
 }

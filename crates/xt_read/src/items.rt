@@ -1,27 +1,31 @@
 //! The items of a text, read token by token.
 
-ghost use Rattle.std.specs.Prelude.{◌≡◌, ◌<◌, ◌^◌, length, IfOk};
-ghost use Rattle.xt_spec.specs.Tree.{Items as SyntaxItems};
+ghost use Rattle.std.specs.Prelude.{◌≡◌, ◌<◌, ◌≤◌, ◌^◌, [], length, drop, IfOk, IfErr};
+ghost use Rattle.std.specs.Str.{IsCharBoundary};
 ghost use Rattle.xt_tree.specs.Meaning.{items_in};
 ghost use Rattle.xt_tree.specs.Places.{marks_of, AreInPlace};
-ghost use Rattle.xt_read.specs.Progress.{state_of, all_marks};
-ghost use Rattle.xt_read.specs.Run.{State, begin, Reads, IsRead};
+ghost use Rattle.xt_read.specs.Progress.{body_of, state_of, all_marks};
+ghost use Rattle.xt_read.specs.Run.{begin, IsRead};
+ghost use Rattle.xt_read.specs.Faults.{Passes, IsBodyFault};
 
 use crate::reader::Reader;
+use crate::stage::Body;
 use crate::unread::Unread;
 use sqlite_items::Items;
 use std::alloc::Global;
 use xt_tree::Src;
 
-/// Reads the text to its end.
-fn read_tokens(alloc: Global, text: &str) -> Result<Reader, Unread>
+/// Reads the text to its end, from the place where its body begins.
+fn read_tokens(alloc: Global, text: &str, from: usize, body: Body) -> Result<Reader, Unread>
+    requires within { from ≤ length text.now }
+    requires boundary { IsCharBoundary text.now from }
     requires fits { length text.now < 2 ^ 32 }
-    ensures value { IfOk result (λ reader. Reads begin text.now (state_of text.now reader)) }
-    ensures place { IfOk result (λ reader. AreInPlace text.now 0 (all_marks reader) (length text.now)) }
-    ensures fault { result ≡ Err Unread.NotPlain → (u : State) → Reads begin text.now u → ⊥ }
+    ensures value { IfOk result (λ reader. Passes (begin (body_of body)) (drop from text.now) (state_of text.now reader) []) }
+    ensures place { IfOk result (λ reader. AreInPlace text.now from (all_marks reader) (length text.now)) }
+    ensures fault { IfErr result (IsBodyFault (body_of body) text.now from) }
 {
-    let mut reader = Reader::new(alloc);
-    let mut at = 0;
+    let mut reader = Reader::new(alloc, body);
+    let mut at = from;
     while at < text.len() {
         match reader.advances(alloc, text, at) {
             Ok(to) => at = to,
@@ -31,17 +35,29 @@ fn read_tokens(alloc: Global, text: &str) -> Result<Reader, Unread>
     Ok(reader)
 }
 
-/// The items of a document.
-pub(crate) fn read_items(alloc: Global, text: &str) -> Result<Items<Src>, Unread>
+/// The items of a body, from the place where it begins.
+pub(crate) fn read_body(
+    alloc: Global,
+    text: &str,
+    from: usize,
+    body: Body,
+) -> Result<Items<Src>, Unread>
+    requires within { from ≤ length text.now }
+    requires boundary { IsCharBoundary text.now from }
     requires fits { length text.now < 2 ^ 32 }
-    ensures value { IfOk result (λ items. IsRead text.now (items_in text.now items)) }
-    ensures place { IfOk result (λ items. AreInPlace text.now 0 (marks_of items) (length text.now)) }
-    ensures fault { result ≡ Err Unread.NotPlain → (list : SyntaxItems) → IsRead text.now list → ⊥ }
+    ensures value { IfOk result (λ items. IsRead (body_of body) (drop from text.now) (items_in text.now items)) }
+    ensures place { IfOk result (λ items. AreInPlace text.now from (marks_of items) (length text.now)) }
+    ensures fault { IfErr result (IsBodyFault (body_of body) text.now from) }
 {
-    let mut reader = read_tokens(alloc, text)?;
+    let mut reader = match read_tokens(alloc, text, from, body) {
+        Ok(reader) => reader,
+        Err(unread) => return Err(unread),
+    };
     if !reader.is_whole() {
-        return Err(Unread::NotPlain);
+        return Err(Unread::NotWellFormed { at: text.len() });
     }
-    reader.settle()?;
-    Ok(reader.into_items())
+    match reader.settle() {
+        Ok(()) => Ok(reader.into_items()),
+        Err(_) => Err(Unread::NoMemory),
+    }
 }

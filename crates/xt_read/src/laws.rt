@@ -1,16 +1,36 @@
 //! Laws of readings, each a clause of a function that does nothing.
 
-ghost use Rattle.std.specs.Prelude.{◌≡◌, ◌↔◌, List, ℕ};
-ghost use Rattle.xt_spec.specs.Tree.{Items};
-ghost use Rattle.xt_spec.specs.Reading.{document, IsReading};
-ghost use Rattle.xt_read.specs.Run.{IsRead};
+ghost use Rattle.std.specs.Prelude.{◌≡◌, ◌≢◌, ◌↔◌, List, ℕ};
+ghost use Rattle.xt_spec.specs.Tree.{Items, source_text};
+ghost use Rattle.xt_spec.specs.Reading.{document, entity, IsReading};
+ghost use Rattle.xt_read.specs.Run.{Body, IsBody, IsRead};
+ghost use Rattle.xt_read.specs.declared.front.FileRole.{FileRole};
+ghost use Rattle.xt_read.specs.declared.unread.Unread.{Unread};
+ghost use Rattle.xt_read.specs.declared.unread.Unread.TheVariants as unread;
+ghost use Rattle.xt_read.specs.Front.{role_of};
+ghost use Rattle.xt_read.specs.Faults.{IsFaultOf};
 
 /// A text has at most one reading as a document.
 pub fn one_reading()
     ensures law { (text : List ℕ) (a b : Items) → IsReading document text a → IsReading document text b → a ≡ b }
 {}
 
-/// A reading is what the longest tokens from left to right give, and nothing else is.
+/// A text has at most one reading as an external parsed entity.
+pub fn one_entity()
+    ensures law { (text : List ℕ) (a b : Items) → IsReading entity text a → IsReading entity text b → a ≡ b }
+{}
+
+/// The top of a document, and content, is what the longest tokens from left to right give, and nothing else is.
 pub fn longest_tokens()
-    ensures law { (text : List ℕ) (items : Items) → (IsReading document text items ↔ IsRead text items) }
+    ensures law { (body : Body) (text : List ℕ) (items : Items) → (IsBody body items × (source_text items ≡ text) ↔ IsRead body text items) }
+{}
+
+/// A file that has a reading has no fault but want of memory.
+pub fn no_fault()
+    ensures law { (role : FileRole) (bytes : List ℕ) (items : Items) (fault : Unread) → IsReading (role_of role) bytes items → IsFaultOf role bytes fault → fault ≡ unread.NoMemory }
+{}
+
+/// A file has at most one fault but want of memory.
+pub fn one_fault()
+    ensures law { (role : FileRole) (bytes : List ℕ) (a b : Unread) → IsFaultOf role bytes a → IsFaultOf role bytes b → a ≢ unread.NoMemory → b ≢ unread.NoMemory → a ≡ b }
 {}

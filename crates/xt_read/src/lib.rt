@@ -8,15 +8,21 @@
 mod advance;
 mod bytes;
 mod document;
+mod front;
 mod items;
 mod laws;
 mod names;
 mod nodes;
 mod plain;
+mod plain_document;
 mod reader;
+mod stage;
 mod tags;
+#[cfg(test)]
+mod tests;
 mod unread;
 
-pub use document::read_document;
-pub use laws::{longest_tokens, one_reading};
+pub use document::{read_document, read_entity};
+pub use laws::{longest_tokens, no_fault, one_entity, one_fault, one_reading};
+pub use plain_document::{Unplain, read_plain};
 pub use unread::Unread;

@@ -11,7 +11,7 @@ ghost use Rattle.xt_spec.specs.Tree.{nil, before};
 ghost use Rattle.xt_tree.specs.Meaning.{at_span, item_of, items_in};
 ghost use Rattle.xt_tree.specs.Places.{IsTagAt, marks_in, marks_of};
 
-use crate::bytes::{bytes_at, is_same};
+use crate::bytes::{bytes_at, is_blank, is_same};
 use memchr::memchr;
 use xt_lex::{AttrSrc, Span, referenced_char};
 use xt_tree::{Src, Tag};
@@ -138,6 +138,13 @@ fn is_plain_tag(text: &str, head: &Tag) -> bool
     named && plain
 }
 
+/// Whether no `<` stands in a text.
+fn lacks_markup(text: &[u8]) -> bool
+    ensures { result ≡ list_all (is_other 0x3C) text.now }
+{
+    memchr(b'<', text).is_none()
+}
+
 /// Whether the items are plain.
 #[cycle(plain)]
 pub(crate) fn are_plain(items: &[Src], text: &str) -> bool
@@ -166,8 +173,8 @@ fn is_plain_item(item: &Src, text: &str) -> bool
             let inner = are_plain(items, text);
             tag && inner
         }
-        Src::Text(_) => true,
-        Src::Gap(_) => true,
+        Src::Text(span) => lacks_markup(bytes_at(text.as_bytes(), *span)),
+        Src::Gap(span) => is_blank(bytes_at(text.as_bytes(), *span)),
         Src::Ref(_) => false,
         Src::Comment(_) => false,
         Src::Pi(_) => false,

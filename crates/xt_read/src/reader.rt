@@ -1,15 +1,16 @@
 //! What was read of a file so far, and how each kind of token goes on from there.
 
-ghost use Rattle.std.specs.Prelude.{◌≡◌, ◌<◌, ◌≤◌, ◌↔◌, IsTrue, true, OnOk, length, map, option_map, List, ℕ, [], ◌∷◌, ◌++◌, Option, Some, None};
+ghost use Rattle.std.specs.Prelude.{◌≡◌, ◌<◌, ◌≤◌, ◌↔◌, ◌||◌, not, IsTrue, true, OnOk, length, map, option_map, List, ℕ, [], ◌∷◌, ◌++◌, Option, Some, None};
 ghost use Rattle.xt_spec.specs.Reading.{are_distinct};
 ghost use Rattle.xt_tree.specs.Meaning.{at_span, item_of};
-ghost use Rattle.xt_tree.specs.Places.{tag_mark, span_mark};
-ghost use Rattle.xt_read.specs.Run.{longer, begin, step, with_text, is_top, has_room, start_tok, empty_tok, end_tok, data_tok, reference_tok, other_tok};
-ghost use Rattle.xt_read.specs.Progress.{state_of, names_at, Gives, settled_marks, all_marks, Joins, joined_span, AddsText};
+ghost use Rattle.xt_tree.specs.Places.{tag_mark, span_mark, marks_in};
+ghost use Rattle.xt_read.specs.Run.{IsWhole, longer, begin, with_text, is_top, is_inside, is_full, begins_root, data_piece, part_piece, reference_piece, comment_piece, pi_piece, doctype_piece, with_item, start_tok, empty_tok, end_tok, piece_tok};
+ghost use Rattle.xt_read.specs.Progress.{stage_of, body_of, state_of, names_at, Gives, settled_marks, all_marks, Joins, joined_span, AddsText};
 
 use crate::bytes::{bytes_at, is_blank, is_same};
 use crate::names::are_distinct;
-use crate::unread::Unread;
+use crate::stage::{self, Body, Stage};
+use crate::unread::Halt;
 use sqlite_items::Items;
 use std::alloc::{AllocError, Global};
 use std::mem;
@@ -30,40 +31,60 @@ pub(crate) struct Frame {
 }
 
 /// The elements that are open, the innermost last; the items of the innermost; the text item that may go on behind them;
-/// and whether the document element came.
+/// and how far the top of the document has come, or none where content stands at the top.
 #[derive(Debug, Drop)]
 pub(crate) struct Reader {
     pub(crate) opened: Vec<Frame>,
     pub(crate) items: Items<Src>,
     pub(crate) text: Option<Span>,
-    pub(crate) came: bool,
+    pub(crate) stage: Option<Stage>,
 }
 
 impl Reader {
-    pub(crate) fn new(alloc: Global) -> Reader
-        ensures value { (bytes : _) → state_of bytes result ≡ begin }
+    pub(crate) fn new(alloc: Global, body: Body) -> Reader
+        ensures value { (bytes : _) → state_of bytes result ≡ begin (body_of body) }
         ensures marks { all_marks result ≡ [] }
     {
         Reader {
             opened: Vec::new(alloc),
             items: Items::new(alloc),
             text: None,
-            came: false,
+            stage: body.first_stage(),
         }
     }
 
-    /// Whether an element may begin here.
-    fn has_room(&self) -> bool
-        ensures { (bytes : _) → result ≡ has_room (state_of bytes self.now) }
+    /// Whether no more elements may be open.
+    fn is_full(&self) -> bool
+        ensures { (bytes : _) → result ≡ is_full (state_of bytes self.now) }
     {
-        self.opened.len() < MOST_LEVELS && (!self.opened.is_empty() || !self.came)
+        self.opened.len() >= MOST_LEVELS
+    }
+
+    fn at_top(&self) -> bool
+        ensures { (bytes : _) → result ≡ is_top (state_of bytes self.now).opened }
+    {
+        self.opened.is_empty()
+    }
+
+    /// Whether an element may begin here, but for the levels.
+    fn may_begin(&self) -> bool
+        ensures { (bytes : _) → result ≡ (not (is_top (state_of bytes self.now).opened) || begins_root (state_of bytes self.now).stage) }
+    {
+        !self.at_top() || stage::begins_root(self.stage)
+    }
+
+    /// Whether text may stand here.
+    fn is_inside(&self) -> bool
+        ensures { (bytes : _) → result ≡ is_inside (state_of bytes self.now) }
+    {
+        !self.at_top() || self.stage.is_none()
     }
 
     /// The text item goes on no more.
     pub(crate) fn settle(&mut self) -> Result<(), AllocError>
         ensures items { OnOk result ((bytes : _) → map (item_of bytes) self.new.items ≡ with_text (map (item_of bytes) self.old.items) (option_map (at_span bytes) self.old.text)) }
         ensures text { OnOk result (self.new.text ≡ None) }
-        ensures others { OnOk result ((self.new.opened ≡ self.old.opened) × (self.new.came ≡ self.old.came)) }
+        ensures others { OnOk result ((self.new.opened ≡ self.old.opened) × (self.new.stage ≡ self.old.stage)) }
         ensures marks { OnOk result (settled_marks self.new ≡ all_marks self.old) }
     {
         match self.text {
@@ -75,12 +96,12 @@ impl Reader {
         }
     }
 
-    /// Whether no element is open, and the document element came.
+    /// Whether nothing is left open.
     pub(crate) fn is_whole(&self) -> bool
         ensures opened { IsTrue result → self.now.opened.items ≡ [] }
-        ensures value { IsTrue result ↔ (self.now.opened.items ≡ []) × (self.now.came ≡ true) }
+        ensures value { (bytes : _) → (IsTrue result ↔ IsWhole (state_of bytes self.now)) }
     {
-        self.opened.is_empty() && self.came
+        self.at_top() && stage::has_ended(self.stage)
     }
 
     /// The items at the top.
@@ -91,40 +112,35 @@ impl Reader {
         items
     }
 
-    fn at_top(&self) -> bool
-        ensures { (bytes : _) → result ≡ is_top (state_of bytes self.now).opened }
-    {
-        self.opened.is_empty()
-    }
-
     /// An element begins with its start-tag.
-    pub(crate) fn opens(&mut self, alloc: Global, bytes: &[u8], head: Tag) -> Result<(), Unread>
-        ensures value { Gives (step (state_of bytes.now self.old) (start_tok (at_span bytes.now head.span) (at_span bytes.now head.name) (names_at bytes.now head.attrs))) result (state_of bytes.now self.new) }
+    pub(crate) fn opens(&mut self, alloc: Global, bytes: &[u8], head: Tag) -> Result<(), Halt>
+        ensures value { Gives (state_of bytes.now self.old) (start_tok (at_span bytes.now head.span) (at_span bytes.now head.name) (names_at bytes.now head.attrs)) result (state_of bytes.now self.new) }
         ensures marks { OnOk result (all_marks self.new ≡ all_marks self.old ++ tag_mark head ∷ []) }
     {
-        if !self.has_room() || !are_distinct(alloc, bytes, head.attrs.as_slice())? {
-            return Err(Unread::NotPlain);
+        if self.is_full() {
+            return Err(Halt::TooDeep);
+        }
+        if !self.may_begin() || !are_distinct(alloc, bytes, head.attrs.as_slice())? {
+            return Err(Halt::Misplaced);
         }
         self.settle()?;
         let kids = Items::from_vec(Vec::with_capacity(alloc, USUAL_KIDS)?);
         let before = mem::replace(&mut self.items, kids);
         self.opened.push(Frame { head, before })?;
-        self.came = true;
+        self.stage = stage::behind_element(self.stage);
         Ok(())
     }
 
     /// An element is its empty-element tag alone.
-    pub(crate) fn holds_empty(
-        &mut self,
-        alloc: Global,
-        bytes: &[u8],
-        head: Tag,
-    ) -> Result<(), Unread>
-        ensures value { Gives (step (state_of bytes.now self.old) (empty_tok (at_span bytes.now head.span) (names_at bytes.now head.attrs))) result (state_of bytes.now self.new) }
+    pub(crate) fn holds_empty(&mut self, alloc: Global, bytes: &[u8], head: Tag) -> Result<(), Halt>
+        ensures value { Gives (state_of bytes.now self.old) (empty_tok (at_span bytes.now head.span) (names_at bytes.now head.attrs)) result (state_of bytes.now self.new) }
         ensures marks { OnOk result (all_marks self.new ≡ all_marks self.old ++ tag_mark head ∷ []) }
     {
-        if !self.has_room() || !are_distinct(alloc, bytes, head.attrs.as_slice())? {
-            return Err(Unread::NotPlain);
+        if self.is_full() {
+            return Err(Halt::TooDeep);
+        }
+        if !self.may_begin() || !are_distinct(alloc, bytes, head.attrs.as_slice())? {
+            return Err(Halt::Misplaced);
         }
         self.settle()?;
         let kids = Items::new(alloc);
@@ -133,21 +149,21 @@ impl Reader {
             kids,
             tail: None,
         })?;
-        self.came = true;
+        self.stage = stage::behind_element(self.stage);
         Ok(())
     }
 
     /// The innermost element ends with its end-tag, which has this name.
-    pub(crate) fn closes(&mut self, bytes: &[u8], span: Span, name: Span) -> Result<(), Unread>
-        ensures value { Gives (step (state_of bytes.now self.old) (end_tok (at_span bytes.now span) (at_span bytes.now name))) result (state_of bytes.now self.new) }
+    pub(crate) fn closes(&mut self, bytes: &[u8], span: Span, name: Span) -> Result<(), Halt>
+        ensures value { Gives (state_of bytes.now self.old) (end_tok (at_span bytes.now span) (at_span bytes.now name)) result (state_of bytes.now self.new) }
         ensures marks { OnOk result (all_marks self.new ≡ all_marks self.old ++ span_mark span ∷ []) }
     {
         self.settle()?;
         let Some(Frame { head, before }) = self.opened.pop() else {
-            return Err(Unread::NotPlain);
+            return Err(Halt::Misplaced);
         };
         if !is_same(bytes_at(bytes, head.name), bytes_at(bytes, name)) {
-            return Err(Unread::NotPlain);
+            return Err(Halt::Misplaced);
         }
         let kids = mem::replace(&mut self.items, before);
         self.items.push(Src::Elem {
@@ -163,7 +179,7 @@ impl Reader {
         requires joins { Joins self.old.text span }
         ensures value { (bytes : List ℕ) → option_map (at_span bytes) self.new.text ≡ Some (longer (option_map (at_span bytes) self.old.text) (at_span bytes span)) }
         ensures text { self.new.text ≡ Some (joined_span self.old.text span) }
-        ensures others { (self.new.opened ≡ self.old.opened) × (self.new.items ≡ self.old.items) × (self.new.came ≡ self.old.came) }
+        ensures others { (self.new.opened ≡ self.old.opened) × (self.new.items ≡ self.old.items) × (self.new.stage ≡ self.old.stage) }
     {
         match self.text {
             Some(text) => {
@@ -176,47 +192,85 @@ impl Reader {
         }
     }
 
-    /// Character data: it goes on with the text item; at the top it is white space.
-    pub(crate) fn holds_data(&mut self, bytes: &[u8], span: Span) -> Result<(), Unread>
+    /// An item of its own, behind the text item.
+    fn adds(&mut self, item: Src) -> Result<(), AllocError>
+        ensures value { OnOk result ((bytes : _) → state_of bytes self.new ≡ with_item (state_of bytes self.old) (item_of bytes item)) }
+        ensures marks { OnOk result (all_marks self.new ≡ all_marks self.old ++ marks_in item) }
+    {
+        self.settle()?;
+        self.items.push(item)
+    }
+
+    /// Character data: it goes on with the text item; at the top of a document it is white space.
+    pub(crate) fn holds_data(&mut self, bytes: &[u8], span: Span) -> Result<(), Halt>
         requires joins { Joins self.old.text span }
-        ensures value { Gives (step (state_of bytes.now self.old) (data_tok (at_span bytes.now span))) result (state_of bytes.now self.new) }
+        ensures value { Gives (state_of bytes.now self.old) (piece_tok data_piece (at_span bytes.now span)) result (state_of bytes.now self.new) }
         ensures marks { OnOk result (AddsText self.old span self.new) }
     {
-        if !self.at_top() {
+        if self.is_inside() {
             self.lengthen(span);
             return Ok(());
         }
         if !is_blank(bytes_at(bytes, span)) {
-            return Err(Unread::NotPlain);
+            return Err(Halt::Misplaced);
         }
-        self.settle()?;
-        self.items.push(Src::Gap(span))?;
+        self.adds(Src::Gap(span))?;
         Ok(())
     }
 
-    /// A reference that stands for a character: it goes on with the text item.
-    pub(crate) fn holds_reference(&mut self, bytes: &[u8], span: Span) -> Result<(), Unread>
+    /// A reference that stands for a character, or a CDATA section: the text item goes on with it.
+    pub(crate) fn holds_part(&mut self, bytes: &[u8], span: Span) -> Result<(), Halt>
         requires joins { Joins self.old.text span }
-        ensures value { Gives (step (state_of bytes.now self.old) (reference_tok (at_span bytes.now span))) result (state_of bytes.now self.new) }
+        ensures value { Gives (state_of bytes.now self.old) (piece_tok part_piece (at_span bytes.now span)) result (state_of bytes.now self.new) }
         ensures marks { OnOk result (AddsText self.old span self.new) }
     {
-        if self.at_top() {
-            return Err(Unread::NotPlain);
+        if !self.is_inside() {
+            return Err(Halt::Misplaced);
         }
         self.lengthen(span);
         Ok(())
     }
 
     /// Any other reference: an item of its own.
-    pub(crate) fn holds_other(&mut self, bytes: &[u8], span: Span) -> Result<(), Unread>
-        ensures value { Gives (step (state_of bytes.now self.old) (other_tok (at_span bytes.now span))) result (state_of bytes.now self.new) }
+    pub(crate) fn holds_reference(&mut self, bytes: &[u8], span: Span) -> Result<(), Halt>
+        ensures value { Gives (state_of bytes.now self.old) (piece_tok reference_piece (at_span bytes.now span)) result (state_of bytes.now self.new) }
         ensures marks { OnOk result (all_marks self.new ≡ all_marks self.old ++ span_mark span ∷ []) }
     {
-        if self.at_top() {
-            return Err(Unread::NotPlain);
+        if !self.is_inside() {
+            return Err(Halt::Misplaced);
         }
-        self.settle()?;
-        self.items.push(Src::Ref(span))?;
+        self.adds(Src::Ref(span))?;
+        Ok(())
+    }
+
+    /// A comment, wherever it stands.
+    pub(crate) fn holds_comment(&mut self, bytes: &[u8], span: Span) -> Result<(), Halt>
+        ensures value { Gives (state_of bytes.now self.old) (piece_tok comment_piece (at_span bytes.now span)) result (state_of bytes.now self.new) }
+        ensures marks { OnOk result (all_marks self.new ≡ all_marks self.old ++ span_mark span ∷ []) }
+    {
+        self.adds(Src::Comment(span))?;
+        Ok(())
+    }
+
+    /// A processing instruction, wherever it stands.
+    pub(crate) fn holds_pi(&mut self, bytes: &[u8], span: Span) -> Result<(), Halt>
+        ensures value { Gives (state_of bytes.now self.old) (piece_tok pi_piece (at_span bytes.now span)) result (state_of bytes.now self.new) }
+        ensures marks { OnOk result (all_marks self.new ≡ all_marks self.old ++ span_mark span ∷ []) }
+    {
+        self.adds(Src::Pi(span))?;
+        Ok(())
+    }
+
+    /// A DOCTYPE declaration: a gap at the top of a document, before the document element, once.
+    pub(crate) fn holds_doctype(&mut self, bytes: &[u8], span: Span) -> Result<(), Halt>
+        ensures value { Gives (state_of bytes.now self.old) (piece_tok doctype_piece (at_span bytes.now span)) result (state_of bytes.now self.new) }
+        ensures marks { OnOk result (all_marks self.new ≡ all_marks self.old ++ span_mark span ∷ []) }
+    {
+        if !self.at_top() || !stage::begins_document(self.stage) {
+            return Err(Halt::Misplaced);
+        }
+        self.adds(Src::Gap(span))?;
+        self.stage = Some(Stage::BeforeRoot);
         Ok(())
     }
 }

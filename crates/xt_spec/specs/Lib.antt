@@ -2,9 +2,15 @@ pub mod Char
 pub mod Name
 pub mod Reference
 pub mod Tag
+pub mod Markup
+pub mod Declaration
+pub mod Doctype
 pub mod Token
 pub mod Tree
 pub mod Text
+pub mod PlainText
 pub mod Reading
 pub mod Value
 pub mod Plain
+pub mod Paths
+pub mod Escape

@@ -1,14 +1,15 @@
 -- Plain documents: those that are opened so far. The test is of this project, and stands above the reading:
--- no byte order mark, CR, colon in a name, attribute of the name `xmlns`, or reference that stands for no character;
--- at most 4,194,304 bytes and 1,000,000 nodes.
+-- no byte order mark, declaration, DOCTYPE, comment, processing instruction, CDATA section, CR, colon in a name, attribute of the name
+-- `xmlns`, or reference that stands for no character; at most 4,194,304 bytes and 1,000,000 nodes.
 --
 --   IsPlainItems     what is asked of the items
 --   IsPlainDocument  the bytes are a plain document that reads as the items
 use Rattle.std.specs.Prelude.{◌≡◌, ℕ, ◌+◌, ◌≤◌, Bool, false, true, not, ◌&&◌, ◌==◌, List, [], ◌∷◌, length, codes, bytes_eq, Option, IsTrue}
 use Rattle.std.specs.List.{AllByRecursion, list_all, starts_with}
 use Rattle.std.specs.Prelude.{nat_eq}
-use Rattle.xt_spec.specs.Tag.{Attribute, Tag, IsTag, tag_text}
+use Rattle.xt_spec.specs.Tag.{Attribute, Tag, IsTag, tag_text, IsBlank}
 use Rattle.xt_spec.specs.Tree.{Items, nil, element, leaf, text_item, reference_item, comment_item, pi_item, gap}
+use Rattle.xt_spec.specs.PlainText.{IsPlainText}
 use Rattle.xt_spec.specs.Value.{HasAttributeValue}
 use Rattle.xt_spec.specs.Reading.{document, tag_ending, IsReading}
 
@@ -28,12 +29,12 @@ pub record IsPlainTag (open_tag : List ℕ) (close : Option (List ℕ)) : Type 0
   pub name : IsTrue (is_plain_name tag.name)
   pub attributes : AllByRecursion IsPlainAttribute tag.attributes
 
--- each tag is plain, and no reference is left to stand for itself
+-- each tag is plain, no reference is left to stand for itself, texts hold no CDATA section, and at the top stands white space alone
 abbrev pub IsPlainItems : Items → Type 0
 IsPlainItems nil = Unit {0}
 IsPlainItems (element open_tag kids close rest) = IsPlainTag open_tag close × IsPlainItems kids × IsPlainItems rest
-IsPlainItems (leaf text_item text rest) = IsPlainItems rest
-IsPlainItems (leaf gap text rest) = IsPlainItems rest
+IsPlainItems (leaf text_item text rest) = IsPlainText text × IsPlainItems rest
+IsPlainItems (leaf gap text rest) = IsBlank text × IsPlainItems rest
 IsPlainItems (leaf reference_item text rest) = ⊥
 IsPlainItems (leaf comment_item text rest) = ⊥
 IsPlainItems (leaf pi_item text rest) = ⊥

@@ -1,61 +1,42 @@
--- Text items: what spells one, and its value. XML 1.0 (Fifth Edition), sections 2.4, 2.11, 4.1 and 4.6.
--- A text item is as written, of a file; its value is UTF-8 too.
+-- Text items: what spells one. XML 1.0 (Fifth Edition), sections 2.4, 2.7, 4.1 and 4.6. A text item is as written.
 --
---   TextPart      a token of a text item: character data, or a reference with the character that it stands for
+--   TextPart      a token of a text item: character data, a reference with the character that it stands for, or a CDATA
+--                 section with its characters
 --   IsTextItem    the text is spelled by such tokens
---   HasTextValue  .. and this is its value
-use Rattle.std.specs.Prelude.{◌≡◌, ◌≢◌, ℕ, Bool, true, false, List, [], ◌∷◌, ◌++◌, ◌==◌, if◌then◌else◌, encode_utf8}
+use Rattle.std.specs.Prelude.{◌≡◌, ◌≢◌, ℕ, Bool, true, false, List, [], ◌∷◌, ◌++◌}
 use Rattle.xt_spec.specs.Reference.{StandsFor}
+use Rattle.xt_spec.specs.Markup.{IsSectionOf}
 use Rattle.xt_spec.specs.Token.{Spells, char_data}
 
 pub data TextPart : Type 0 where
   data_part : List ℕ → TextPart
   reference_part : List ℕ → ℕ → TextPart
+  section_part : List ℕ → List ℕ → TextPart
 
 abbrev pub part_text : TextPart → List ℕ
 part_text (data_part text) = text
 part_text (reference_part text c) = text
+part_text (section_part text content) = text
 
 -- the texts of the parts, joined
 abbrev pub parts_text : List TextPart → List ℕ
 parts_text [] = []
 parts_text (part ∷ parts) = part_text part ++ parts_text parts
 
--- line ends as read: each CR LF, and each other CR, is an LF (2.11)
-abbrev pub lines_read_behind : Bool → List ℕ → List ℕ
-lines_read_behind cr [] = []
-lines_read_behind cr (b ∷ bytes) =
-    if b == 0xD then 0xA ∷ lines_read_behind true bytes
-    else (if b == 0xA then (if cr then lines_read_behind false bytes else 0xA ∷ lines_read_behind false bytes) else b ∷ lines_read_behind false bytes)
-
-abbrev pub lines_read : List ℕ → List ℕ
-lines_read bytes = lines_read_behind false bytes
-
--- what a part counts in the value
-abbrev pub part_value : TextPart → List ℕ
-part_value (data_part text) = lines_read text
-part_value (reference_part text c) = encode_utf8 c
-
-abbrev pub parts_value : List TextPart → List ℕ
-parts_value [] = []
-parts_value (part ∷ parts) = part_value part ++ parts_value parts
-
 -- the first part is character data
 abbrev pub begins_with_data : List TextPart → Bool
 begins_with_data [] = false
 begins_with_data (data_part text ∷ parts) = true
 begins_with_data (reference_part text c ∷ parts) = false
+begins_with_data (section_part text content ∷ parts) = false
 
 -- each part is spelled, and no two of character data stand side by side
 abbrev pub AreTextParts : List TextPart → Type 0
 AreTextParts [] = Unit {0}
 AreTextParts (data_part text ∷ parts) = Spells char_data text × (begins_with_data parts ≡ false) × AreTextParts parts
 AreTextParts (reference_part text c ∷ parts) = StandsFor text c × AreTextParts parts
+AreTextParts (section_part text content ∷ parts) = IsSectionOf text content × AreTextParts parts
 
 -- the text is one text item
 abbrev pub IsTextItem : List ℕ → Type 0
 IsTextItem text = (parts : List TextPart) × AreTextParts parts × (parts ≢ []) × (parts_text parts ≡ text)
-
--- the text item's value joins the values of its parts
-abbrev pub HasTextValue : List ℕ → List ℕ → Type 0
-HasTextValue text value = (parts : List TextPart) × AreTextParts parts × (parts_text parts ≡ text) × (parts_value parts ≡ value)

@@ -1,4 +1,4 @@
--- Tokens, after XML 1.0 (Fifth Edition), sections 2.4, 3.1 and 4.1, and Namespaces in XML 1.0, section 3:
+-- Tokens, after XML 1.0 (Fifth Edition), sections 2.4 to 2.8, 3.1 and 4.1, and Namespaces in XML 1.0, section 3:
 -- what each kind is spelled as, and which token stands at the front of a text. A text is the list of its bytes, as written.
 --
 --   Spells          the text is a token of the kind
@@ -11,6 +11,9 @@ use Rattle.xt_spec.specs.Char.{is_char}
 use Rattle.xt_spec.specs.Name.{IsQName}
 use Rattle.xt_spec.specs.Reference.{NamesChar, IsEntityRef}
 use Rattle.xt_spec.specs.Tag.{Tag, IsTag, tag_text, IsEndTag}
+use Rattle.xt_spec.specs.Declaration.{IsDeclaration}
+use Rattle.xt_spec.specs.Doctype.{IsDoctype}
+use Rattle.xt_spec.specs.Markup.{IsCDataSection, IsComment, IsPi}
 
 pub data TokenKind : Type 0 where
   start_tag : TokenKind
@@ -19,6 +22,11 @@ pub data TokenKind : Type 0 where
   char_data : TokenKind
   char_ref : TokenKind
   entity_ref : TokenKind
+  cdata_section : TokenKind
+  comment : TokenKind
+  pi : TokenKind
+  declaration : TokenKind
+  doctype : TokenKind
 
 -- a code point that stands for itself in content
 abbrev pub IsPlain : ℕ → Type 0
@@ -32,7 +40,7 @@ BeginsClose text = (rest : List ℕ) × (text ≡ codes "]]>" ++ rest)
 abbrev pub HoldsNoClose : List ℕ → Type 0
 HoldsNoClose text = (k : ℕ) → ¬ BeginsClose (drop k text)
 
--- [40], [44], [42], [14] (of one or more characters), [66], [68]
+-- [40], [44], [42], [14] (of one or more characters), [66], [68], [18], [15], [16], [23] or [77], [28]
 abbrev pub Spells : TokenKind → List ℕ → Type 0
 Spells start_tag text = (tag : Tag) × IsTag tag × (text ≡ tag_text tag (codes ">"))
 Spells empty_tag text = (tag : Tag) × IsTag tag × (text ≡ tag_text tag (codes "/>"))
@@ -40,6 +48,11 @@ Spells end_tag text = (name : List ℕ) × IsQName name × IsEndTag name text
 Spells char_data text = (cs : List ℕ) × (cs ≢ []) × AllByRecursion IsPlain cs × (text ≡ encode_utf8_all cs) × HoldsNoClose text
 Spells char_ref text = (c : ℕ) × NamesChar text c
 Spells entity_ref text = IsEntityRef text
+Spells cdata_section text = IsCDataSection text
+Spells comment text = IsComment text
+Spells pi text = IsPi text
+Spells declaration text = IsDeclaration text
+Spells doctype text = IsDoctype text
 
 -- within the first n bytes of the text no `]]>` begins
 abbrev pub NoCloseBelow : ℕ → List ℕ → Type 0
@@ -54,6 +67,11 @@ MayStand empty_tag n text = Unit {0}
 MayStand end_tag n text = Unit {0}
 MayStand char_ref n text = Unit {0}
 MayStand entity_ref n text = Unit {0}
+MayStand cdata_section n text = Unit {0}
+MayStand comment n text = Unit {0}
+MayStand pi n text = Unit {0}
+MayStand declaration n text = Unit {0}
+MayStand doctype n text = Unit {0}
 
 -- a token of the kind stands at the front of the text, and takes n bytes
 pub record IsFront (kind : TokenKind) (n : ℕ) (text : List ℕ) : Type 0 where

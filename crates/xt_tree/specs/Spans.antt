@@ -7,7 +7,7 @@
 --   IsItemSpan an item is at the path, and its text is at this span
 use Rattle.std.specs.Prelude.{◌≡◌, ℕ, ◌≤◌, List, [], ◌++◌, take, drop, length, None, Some}
 use Rattle.xt_spec.specs.Tree.{Item, element_item, leaf_item, Items, nil, before, source_text}
-use Rattle.ed_spec.specs.Paths.{item_at, replaced}
+use Rattle.xt_spec.specs.Paths.{item_at, replaced}
 use Rattle.xt_lex.specs.declared.token.Span.{Span}
 use Rattle.xt_tree.specs.declared.source.Src.{Src, out-Src}
 use Rattle.xt_tree.specs.declared.source.Src.TheOpen.{Src-F, Elem, Text, Ref, Comment, Pi, Gap}

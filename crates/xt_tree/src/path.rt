@@ -3,7 +3,7 @@
 
 ghost use Rattle.std.specs.Prelude.{◌≡◌, List, ℕ, length, is_some, IfSome, option_map};
 ghost use Rattle.std.specs.Option.{option_copied};
-ghost use Rattle.ed_spec.specs.Paths.{item_at};
+ghost use Rattle.xt_spec.specs.Paths.{item_at};
 ghost use Rattle.xt_tree.specs.Meaning.{item_of, items_in};
 ghost use Rattle.xt_tree.specs.Places.{marks_of, AreInPlace};
 ghost use Rattle.xt_tree.specs.Spans.{IsClosed, IsItemAt, IsItemSpan};

@@ -13,7 +13,7 @@ use Rattle.std.specs.Str.{IsUtf8, NonePass, NoCharPasses}
 use Rattle.memchr.specs.Find.{is_byte, IsFirstByte}
 use Rattle.xt_spec.specs.Reference.{StandsFor, is_decimal_digit, is_hexadecimal_digit}
 use Rattle.xt_spec.specs.Token.{IsPlain, Spells, char_data, char_ref}
-use Rattle.xt_spec.specs.Text.{TextPart, data_part, reference_part, parts_text, parts_value, begins_with_data, AreTextParts, HasTextValue, lines_read, lines_read_behind}
+use Rattle.xt_spec.specs.PlainText.{PlainPart, data_part, reference_part, parts_text, parts_value, begins_with_data, ArePlainParts, HasTextValue, lines_read, lines_read_behind}
 use Rattle.xt_lex.proofs.Utf8.{ascii}
 use Rattle.xt_lex.proofs.Theorems.{spells_utf8, stands_unique}
 use Rattle.xt_value.specs.Parts.{is_no_ampersand, is_no_semicolon, is_no_cr, EndsData, AddsValue}
@@ -138,7 +138,7 @@ ampersand_fails b same plain =
     let bad : false ≡ true = at in
     absurd (cc)
 
-parts_end : (parts : List TextPart) → AreTextParts parts → begins_with_data parts ≡ false → EndsData (parts_text parts)
+parts_end : (parts : List PlainPart) → ArePlainParts parts → begins_with_data parts ≡ false → EndsData (parts_text parts)
 parts_end [] are apart = inl refl
 parts_end (data_part text ∷ parts) are apart = absurd (cc)
 parts_end (reference_part text c ∷ parts) are apart =
@@ -151,7 +151,7 @@ pub data_adds : (text piece rest old new : List ℕ) (b : ℕ) (bytes : List ℕ
     → new ≡ old ++ lines_read piece → AddsValue text rest old new
 data_adds text piece rest old new b bytes begins plain cuts is value (parts, are, spell, value_is) = by parts are spell value_is
   where
-    by : (parts : List TextPart) → AreTextParts parts → parts_text parts ≡ text → parts_value parts ≡ value → (others : List ℕ) × HasTextValue rest others × (old ++ value ≡ new ++ others)
+    by : (parts : List PlainPart) → ArePlainParts parts → parts_text parts ≡ text → parts_value parts ≡ value → (others : List ℕ) × HasTextValue rest others × (old ++ value ≡ new ++ others)
     by [] are spell value_is = let bad = spell ∙ begins in absurd (cc)
     by (reference_part reference c ∷ parts) are spell value_is =
         let (body, none, shape) = wrapped reference c are.0 in
@@ -181,7 +181,7 @@ pub record BeginsReference (text reference rest value : List ℕ) : Type 0 where
 pub reference_front : (text reference rest value : List ℕ) (bytes : List ℕ) → text ≡ 0x26 ∷ bytes → CutsReference text reference rest → HasTextValue text value → BeginsReference text reference rest value
 reference_front text reference rest value bytes begins cuts (parts, are, spell, value_is) = by parts are spell value_is
   where
-    by : (parts : List TextPart) → AreTextParts parts → parts_text parts ≡ text → parts_value parts ≡ value → BeginsReference text reference rest value
+    by : (parts : List PlainPart) → ArePlainParts parts → parts_text parts ≡ text → parts_value parts ≡ value → BeginsReference text reference rest value
     by [] are spell value_is = let bad = spell ∙ begins in absurd (cc)
     by (data_part [] ∷ parts) are spell value_is = absurd (no_data are.0)
       where
@@ -237,7 +237,7 @@ adds_nothing text old value has = (value, has, refl)
 pub value_end : (value : List ℕ) → HasTextValue [] value → value ≡ []
 value_end value (parts, are, spell, is) = sym is ∙ by parts are spell
   where
-    by : (parts : List TextPart) → AreTextParts parts → parts_text parts ≡ [] → parts_value parts ≡ []
+    by : (parts : List PlainPart) → ArePlainParts parts → parts_text parts ≡ [] → parts_value parts ≡ []
     by [] are spell = refl
     by (data_part [] ∷ parts) are spell = by parts are.2 spell
     by (data_part (c ∷ text) ∷ parts) are spell = absurd (cc)
@@ -328,6 +328,6 @@ pub begins_with_byte : (xs : List ℕ) (b : ℕ) → 1 ≤ length xs → get_or 
 begins_with_byte xs b some is = subst (λ (x : ℕ). xs ≡ x ∷ take (length xs - 1) (drop 1 xs)) is (first_and_others xs some)
 
 -- the bytes of the value that the parts of an item have
-pub value_is : (text out bytes : List ℕ) → (parts : List TextPart) → AreTextParts parts → parts_text parts ≡ text → ((value : List ℕ) → HasTextValue text value → out ≡ value) → bytes ≡ out → HasTextValue text bytes
+pub value_is : (text out bytes : List ℕ) → (parts : List PlainPart) → ArePlainParts parts → parts_text parts ≡ text → ((value : List ℕ) → HasTextValue text value → out ≡ value) → bytes ≡ out → HasTextValue text bytes
 value_is text out bytes parts are spell is same =
     (parts, are, spell, sym (is (parts_value parts) (parts, are, spell, refl)) ∙ sym same)

@@ -1,6 +1,6 @@
 -- What stands at the front of a text item, and what of its value was added. XML 1.0 (Fifth Edition), sections 2.4 and 2.11.
 use Rattle.std.specs.Prelude.{◌≡◌, ◌⊎◌, ℕ, Bool, not, ◌==◌, List, [], ◌∷◌, ◌++◌}
-use Rattle.xt_spec.specs.Text.{HasTextValue}
+use Rattle.xt_spec.specs.PlainText.{HasTextValue}
 
 abbrev pub is_no_ampersand : ℕ → Bool
 is_no_ampersand b = not (b == 0x26)

@@ -2,7 +2,7 @@
 ghost use Rattle.std.specs.Prelude.{◌≡◌, ◌≢◌, ◌<◌, ◌≤◌, List, ℕ, [], ◌∷◌, ◌++◌, length, true, OnOk, IfOk, MatchOption, string_bytes, encode_utf8};
 ghost use Rattle.std.specs.List.{list_all, position_or_len};
 ghost use Rattle.xt_spec.specs.Reference.{StandsFor};
-ghost use Rattle.xt_spec.specs.Text.{IsTextItem, HasTextValue, lines_read, lines_read_behind};
+ghost use Rattle.xt_spec.specs.PlainText.{IsPlainText, HasTextValue, lines_read, lines_read_behind};
 ghost use Rattle.memchr.specs.Find.{is_byte};
 ghost use Rattle.xt_value.specs.Parts.{is_no_ampersand, is_no_semicolon, is_no_cr, EndsData, AddsValue};
 
@@ -159,7 +159,7 @@ fn value_bytes(alloc: Global, text: &[u8]) -> Result<Vec<u8>, AllocError>
 ///
 /// The text is as written. Nothing is said of a text that is no item.
 pub fn text_value(alloc: Global, text: &str) -> Result<String, AllocError>
-    ensures value { IsTextItem text.now → IfOk result (λ value. HasTextValue text.now (string_bytes value)) }
+    ensures value { IsPlainText text.now → IfOk result (λ value. HasTextValue text.now (string_bytes value)) }
     ensures exact { IfOk result (λ value. (other : List ℕ) → HasTextValue text.now other → other ≡ string_bytes value) }
 {
     match String::from_utf8(value_bytes(alloc, text.as_bytes())?) {

@@ -1,7 +1,7 @@
 use Rattle.std.proofs.Common.{◌≡◌, ◌∙◌, List, ℕ, sym, subst, encode_utf8_all, string_bytes}
 use Rattle.std.proofs.lemmas.Str.{encodes-chars}
 use Rattle.std.specs.Str.{chars}
-use Rattle.xt_spec.specs.Text.{IsTextItem, HasTextValue}
+use Rattle.xt_spec.specs.PlainText.{IsPlainText, HasTextValue}
 use Rattle.xt_tree.specs.Meaning.{at_span, items_in}
 use Rattle.ed_session.proofs.EditLemmas.{plain_narrow, plain_text, no_text_refused, no_value_refused, new_text_is}
 use Rattle.ed_session.proofs.edit.new_text.Goals as goal
@@ -19,7 +19,7 @@ returns-in-Ok-new_value-clause-value c =
     let items = items_in bytes c.args.items.now in
     let text = at_span bytes c.in-Ok.found.span in
     let at = c.in-Ok.ensures.value bytes in
-    let item : IsTextItem c.bytes_at.result.now = subst (λ (l : List ℕ). IsTextItem l) (sym c.bytes_at.ensures.value) (plain_text bytes items c.args.at.now c.in-Ok.found.path.items text c.requires.current at) in
+    let item : IsPlainText c.bytes_at.result.now = subst (λ (l : List ℕ). IsPlainText l) (sym c.bytes_at.ensures.value) (plain_text bytes items c.args.at.now c.in-Ok.found.path.items text c.requires.current at) in
     let has : HasTextValue text (string_bytes c.in_ok-old.old) = subst (λ (l : List ℕ). HasTextValue l (string_bytes c.in_ok-old.old)) c.bytes_at.ensures.value (c.in_ok-old.ensures.value item) in
     let spell : encode_utf8_all (chars c.as_str.result.now) ≡ string_bytes c.in_ok-old.old = encodes-chars c.as_str.result.now c.as_str.utf8 ∙ c.as_str.ensures.value in
     new_text_is items c.args.at.now (chars c.args.new.now) c.in-Ok.found.path.items text (chars c.as_str.result.now) (chars (string_bytes c.in-Ok-new_value.value)) c.args.from c.args.to at
@@ -31,7 +31,7 @@ returns-in-Err-new_value-clause-fault c =
     let items = items_in bytes c.args.items.now in
     let text = at_span bytes c.in-Ok.found.span in
     let at = c.in-Ok.ensures.value bytes in
-    let item : IsTextItem c.bytes_at.result.now = subst (λ (l : List ℕ). IsTextItem l) (sym c.bytes_at.ensures.value) (plain_text bytes items c.args.at.now c.in-Ok.found.path.items text c.requires.current at) in
+    let item : IsPlainText c.bytes_at.result.now = subst (λ (l : List ℕ). IsPlainText l) (sym c.bytes_at.ensures.value) (plain_text bytes items c.args.at.now c.in-Ok.found.path.items text c.requires.current at) in
     let has : HasTextValue text (string_bytes c.in_ok-old.old) = subst (λ (l : List ℕ). HasTextValue l (string_bytes c.in_ok-old.old)) c.bytes_at.ensures.value (c.in_ok-old.ensures.value item) in
     let spell : encode_utf8_all (chars c.as_str.result.now) ≡ string_bytes c.in_ok-old.old = encodes-chars c.as_str.result.now c.as_str.utf8 ∙ c.as_str.ensures.value in
     no_value_refused items c.args.at.now (chars c.args.new.now) c.in-Ok.found.path.items text (chars c.as_str.result.now) c.args.from c.args.to c.in-Err-new_value.e at

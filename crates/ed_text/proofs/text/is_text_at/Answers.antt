@@ -1,6 +1,6 @@
 use Rattle.std.proofs.Common.{◌∙◌, sym, ap, option_map}
 use Rattle.std.specs.Option.{option_copied}
-use Rattle.ed_spec.specs.Paths.{item_at}
+use Rattle.xt_spec.specs.Paths.{item_at}
 use Rattle.xt_tree.specs.Meaning.{item_of, items_in}
 use Rattle.ed_text.proofs.TextPlaceLemmas.{found_text, none_found}
 use Rattle.ed_text.proofs.text.is_text_at.Goals as goal

@@ -1,9 +1,11 @@
-use Rattle.std.proofs.Common.{arith, subst, Bool, IsTrue, ◌↔◌, ◌&&◌}
-use Rattle.xt_tree.specs.Meaning.{items_in, item_of}
+use Rattle.std.proofs.Common.{arith, subst, ap, ◌∙◌, List, ℕ, Bool, IsTrue, ◌↔◌, ◌&&◌}
+use Rattle.std.specs.List.{list_all}
+use Rattle.xt_read.specs.References.{is_other}
+use Rattle.xt_tree.specs.Meaning.{at_span, items_in, item_of}
 use Rattle.xt_spec.specs.Tree.{before, nil}
 use Rattle.xt_spec.specs.Plain.{IsPlainItems}
 use Rattle.xt_read.proofs.PlainTags.{first_true}
-use Rattle.xt_read.proofs.PlainItems.{first_item, items_more, items_fail, element_placed, element_tags, kids_placed, kids_fewer, item_fewer, element_plain}
+use Rattle.xt_read.proofs.PlainItems.{first_item, items_more, items_fail, element_placed, element_tags, kids_placed, kids_fewer, item_fewer, element_plain, text_plain}
 use Rattle.xt_read.proofs.plain.+plain.Goals as goal
 
 pub are_plain-is_plain_item-requires : goal.are_plain-is_plain_item-requires
@@ -43,3 +45,8 @@ is_plain_item-returns-else-tag t c =
     let test = element_plain c.args.text.now c.args.item.now c.in-Elem.head c.in-Elem.kids c.as_slice-items.result.now c.in-Elem.tail c.is_plain_tag-tag.result c.are_plain-inner.result c.in-Elem.is c.as_slice-items.ensures c.requires.1.1.1 e.0 (c.is_plain_tag-tag.ensures e.0) c.are_plain-inner.ensures in
     let named = c.if-tag.false in
     ((λ h. absurd (cc)), λ p. first_true c.is_plain_tag-tag.result c.are_plain-inner.result (test.1 p))
+
+pub is_plain_item-returns-in-Text : goal.is_plain_item-returns-in-Text
+is_plain_item-returns-in-Text t c =
+    let text = c.args.text.now in
+    text_plain text c.args.item.now c.in-Text.span c.lacks_markup.result (c.lacks_markup.ensures ∙ ap (list_all (is_other 0x3C)) (c.bytes_at.ensures ∙ ap (λ (b : List ℕ). at_span b c.in-Text.span) c.as_bytes.ensures.value)) c.in-Text.is c.requires.1.1.1

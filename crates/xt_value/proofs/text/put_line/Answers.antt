@@ -1,5 +1,5 @@
 use Rattle.std.proofs.Common.{◌≡◌, ◌∙◌, ◌∷◌, List, ℕ, ap, get_or, take, drop, length, ◌-◌}
-use Rattle.xt_spec.specs.Text.{lines_read}
+use Rattle.xt_spec.specs.PlainText.{lines_read}
 use Rattle.xt_value.proofs.PartLemmas.{line_whole, line_and_end, cr_read, first_and_others}
 use Rattle.xt_value.proofs.text.put_line.Goals as goal
 

@@ -1,5 +1,5 @@
 use Rattle.std.proofs.Common.{◌≡◌, ◌++◌, length}
-use Rattle.xt_spec.specs.Text.{lines_read}
+use Rattle.xt_spec.specs.PlainText.{lines_read}
 use Rattle.xt_value.proofs.text.put_lines.Given as goal
 
 abbrev pub invariant-loop-rest : goal.invariant-loop-rest

@@ -1,5 +1,5 @@
 use Rattle.std.proofs.Common.{◌∙◌, List, ℕ, sym, ap, subst, string_bytes}
-use Rattle.xt_spec.specs.Text.{HasTextValue}
+use Rattle.xt_spec.specs.PlainText.{HasTextValue}
 use Rattle.xt_value.proofs.PartLemmas.{value_is}
 use Rattle.xt_value.proofs.text.text_value.Goals as goal
 

@@ -4,7 +4,7 @@ use Rattle.xt_lex.specs.Kinds.{kind_of}
 use Rattle.xt_lex.specs.declared.token.Span.{Span}
 use Rattle.xt_tree.specs.Meaning.{at_span}
 use Rattle.xt_read.specs.Progress.{Gives, names_at, all_marks, state_of}
-use Rattle.xt_read.specs.Run.{step, empty_tok}
+use Rattle.xt_read.specs.Run.{empty_tok}
 use Rattle.xt_read.proofs.TokenSteps.{empty_ahead, empty_tok_is, takes_by, tag_placed, cut_behind}
 use Rattle.xt_read.proofs.reader.Reader.takes_empty.Goals as goal
 
@@ -20,8 +20,8 @@ pub returns-in-Ok-clause-value : goal.returns-in-Ok-clause-value
 returns-in-Ok-clause-value c =
     let text = c.args.text.now in let head = c.in-Ok.head in
     takes_by text c.args.token (state_of text c.args.self.now) (state_of text c.holds_empty.new.self) (empty_tok (at_span text head.span) (names_at text head.attrs)) c.holds_empty.result
-    (empty_tok_is text c.args.token head c.requires.token (ap kind_of c.requires.kind) c.in-Ok.ensures.value.0 c.in-Ok.ensures.kind c.in-Ok.ensures.value.1) (subst (λ (bs : List ℕ). Gives (step (state_of bs c.args.self.now) (empty_tok (at_span bs head.span) (names_at bs head.attrs))) c.holds_empty.result (state_of bs c.holds_empty.new.self)) c.as_bytes.ensures.value c.holds_empty.ensures.value)
+    (empty_tok_is text c.args.token head c.requires.token (ap kind_of c.requires.kind) c.in-Ok.ensures.value.0 c.in-Ok.ensures.kind c.in-Ok.ensures.value.1) (subst (λ (bs : List ℕ). Gives (state_of bs c.args.self.now) (empty_tok (at_span bs head.span) (names_at bs head.attrs)) c.holds_empty.result (state_of bs c.holds_empty.new.self)) c.as_bytes.ensures.value c.holds_empty.ensures.value)
 
 pub returns-in-Ok-clause-place : goal.returns-in-Ok-clause-place
-returns-in-Ok-clause-place c = on_ok_weaker c.holds_empty.result (λ is.
-    tag_placed c.args.text.now c.args.token.span.from c.args.token.span.to (all_marks c.args.self.now) (all_marks c.holds_empty.new.self) c.in-Ok.head c.requires.place c.in-Ok.ensures.value.1 (ap (λ (s : Span). s.to) c.in-Ok.ensures.value.0) is) c.holds_empty.ensures.marks
+returns-in-Ok-clause-place c = on_ok_weaker c.holds_empty.result (λ is from placed.
+    tag_placed c.args.text.now from c.args.token.span.from c.args.token.span.to (all_marks c.args.self.now) (all_marks c.holds_empty.new.self) c.in-Ok.head placed c.in-Ok.ensures.value.1 (ap (λ (s : Span). s.to) c.in-Ok.ensures.value.0) is) c.holds_empty.ensures.marks

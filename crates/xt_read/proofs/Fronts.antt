@@ -1,0 +1,230 @@
+-- What stands in front of a body: a byte order mark and a declaration.
+use Rattle.std.proofs.Common.{◌≡◌, ◌∙◌, List, ℕ, ◌+◌, ◌∷◌, ◌++◌, length, take, drop, refl, sym, ap, subst, Bool, true, false, IsUtf8, inl, inr, nat_eq, arith, codes, append_assoc}
+use Rattle.std.proofs.lemmas.List.{take_at, drop_at, drop-drop, take-append-drop}
+use Rattle.std.proofs.lemmas.Slice.Eq.{bytes_eq-Decides}
+use Rattle.std.specs.List.{starts_with, list_all}
+use Rattle.xt_spec.specs.Char.{is_space}
+use Rattle.xt_spec.specs.Declaration.{Declaration, IsDeclarationOf, IsDeclaration, is_utf8_or_absent, is_xml_declaration, is_text_declaration}
+use Rattle.xt_spec.specs.Token.{declaration, IsLongestFront}
+use Rattle.xt_spec.specs.Tree.{Items, nil, leaf, gap, append, source_text}
+use Rattle.xt_spec.specs.Reading.{before_doctype, behind_root, Leads, mark, DeclaresUtf8, IsMarked, IsDeclared, document, entity, IsOrdered, IsReading}
+use Rattle.xt_spec.specs.Plain.{IsPlainItems}
+use Rattle.xt_lex.proofs.Theorems.{token_longest, declaration_unique}
+use Rattle.xt_read.specs.Run.{Body, document_body, content_body, IsBody, begin, piece_tok, declaration_piece, IsToken}
+use Rattle.xt_read.specs.Front.{NoDeclared, IsForeign, after_mark, role_of, form_of, body_for, mark_len, TakesDeclared, BeginsBody, IsFront}
+use Rattle.xt_read.specs.declared.front.FileRole.{FileRole}
+use Rattle.xt_read.specs.declared.front.FileRole.TheVariants as role
+use Rattle.xt_read.proofs.Runs.{one_list, no_step}
+use Rattle.xt_read.proofs.Complete.{body_is_read}
+
+-- ---- one declaration
+
+pub longest : (spelled rest : List ℕ) → IsDeclaration spelled → IsLongestFront (spelled ++ rest) declaration (length spelled)
+longest spelled rest is = token_longest declaration spelled rest is (λ k. cc)
+
+-- a text begins with one declaration at most
+pub one_declaration : (spelled other rest more : List ℕ) → spelled ++ rest ≡ other ++ more → IsDeclaration spelled → IsDeclaration other → (spelled ≡ other) × (rest ≡ more)
+one_declaration spelled other rest more same x y =
+    let a = longest spelled rest x in
+    let b = subst (λ t. IsLongestFront t declaration (length other)) (sym same) (longest other more y) in
+    let up = (a.longest declaration (length other) b.front).1 in
+    let down = (b.longest declaration (length spelled) a.front).1 in
+    let size : length spelled ≡ length other = omega (arith, up, down) in (
+      sym (take_at spelled rest (length spelled) refl) ∙ ap (take (length spelled)) same ∙ ap (λ n. take n (other ++ more)) size ∙ take_at other more (length other) refl,
+      sym (drop_at spelled rest (length spelled) refl) ∙ ap (drop (length spelled)) same ∙ ap (λ n. drop n (other ++ more)) size ∙ drop_at other more (length other) refl,
+    )
+
+-- no body begins with one
+no_body_declared : (body : Body) (list : Items) (spelled rest : List ℕ) → IsDeclaration spelled → source_text list ≡ spelled ++ rest → IsBody body list → ⊥
+no_body_declared body list spelled rest is joined holds =
+    let read = body_is_read body (spelled ++ rest) list holds joined in
+    let token : IsToken (piece_tok declaration_piece spelled) (spelled ++ rest) = record { kind = declaration; longest = longest spelled rest is; front = take_at spelled rest (length spelled) refl; of_kind = refl } in
+    no_step (begin body) read.last (spelled ++ rest) (piece_tok declaration_piece spelled) token refl read.reads
+
+-- ---- behind the byte order mark
+
+-- these items stand in front of the text, and take so many bytes of it
+pub record IsAfter (form : Declaration → Bool) (body : Body) (text : List ℕ) (front : Items) (len : ℕ) : Type 0 where
+  pub opens : (list : Items) → IsBody body list → source_text list ≡ drop len text → IsDeclared form (IsBody body) (append front list) × (source_text (append front list) ≡ text)
+  pub only : (items : Items) → IsDeclared form (IsBody body) items → source_text items ≡ text → (list : Items) × (items ≡ append front list) × IsBody body list × (source_text list ≡ drop len text)
+  pub known : ¬ IsForeign form text
+
+pub after_none : (form : Declaration → Bool) (body : Body) (text : List ℕ) → NoDeclared form text → IsAfter form body text nil 0
+after_none form body text none = record {
+  opens = λ list is joined. (inr is, joined);
+  only = only;
+  known = λ foreign. none foreign.0;
+}
+  where
+    only : (items : Items) → IsDeclared form (IsBody body) items → source_text items ≡ text → (list : Items) × (items ≡ append nil list) × IsBody body list × (source_text list ≡ drop 0 text)
+    only items (inl (spelled, rest, is, (d, declares, has, utf8), main)) joined =
+        absurd (none (record { spelled = spelled; rest = source_text rest; declares = d; is = declares; has_form = has; stands = sym joined ∙ ap source_text is }))
+    only items (inr main) joined = (items, refl, main, joined)
+
+pub after_declared : (form : Declaration → Bool) (body : Body) (text spelled rest : List ℕ) (len : ℕ) → DeclaresUtf8 form spelled → text ≡ spelled ++ rest → len ≡ length spelled → IsAfter form body text (leaf gap spelled nil) len
+after_declared form body text spelled rest len (d, declares, has, utf8) stands size = record {
+  opens = λ list is joined. (inl (spelled, list, refl, (d, declares, has, utf8), is), ap (λ t. spelled ++ t) (joined ∙ rest_is) ∙ sym stands);
+  only = only;
+  known = known;
+}
+  where
+    rest_is : drop len text ≡ rest
+    rest_is = ap (λ n. drop n text) size ∙ ap (drop (length spelled)) stands ∙ drop_at spelled rest (length spelled) refl
+
+    only : (items : Items) → IsDeclared form (IsBody body) items → source_text items ≡ text → (list : Items) × (items ≡ append (leaf gap spelled nil) list) × IsBody body list × (source_text list ≡ drop len text)
+    only items (inl (other, list, is, (e, also, has_too, utf8_too), main)) joined =
+        let same = one_declaration other spelled (source_text list) rest (sym (ap source_text is) ∙ joined ∙ stands) (e, also) (d, declares) in
+        (list, is ∙ ap (λ t. leaf gap t list) same.0, main, same.1 ∙ sym rest_is)
+    only items (inr main) joined = absurd (no_body_declared body items spelled rest (d, declares) (joined ∙ stands) main)
+
+    known : IsForeign form text → ⊥
+    known (other, foreign) =
+        let same = one_declaration other.spelled spelled other.rest rest (sym other.stands ∙ stands) (other.declares, other.is) (d, declares) in
+        let one : other.declares ≡ d = declaration_unique spelled other.declares d (subst (IsDeclarationOf other.declares) same.0 other.is) declares in
+        let h : false ≡ true = sym foreign ∙ ap (λ (d : Declaration). is_utf8_or_absent d.encoding) one ∙ utf8 in cc
+
+-- ---- the byte order mark
+
+starts_mark : (rest : List ℕ) → starts_with nat_eq (mark ++ rest) mark ≡ true
+starts_mark rest = refl
+
+-- a text that begins with a mark
+begins_mark : (text : List ℕ) → starts_with nat_eq text mark ≡ true → text ≡ mark ++ drop 3 text
+begins_mark text is = sym (take-append-drop 3 text) ∙ ap (λ t. t ++ drop 3 text) (sym ((bytes_eq-Decides mark (take 3 text)).0 is))
+
+-- what stands in front of a file, in a form
+pub record IsFrontBy (form : Declaration → Bool) (body : Body) (text : List ℕ) (front : Items) (to : ℕ) : Type 0 where
+  pub opens : (list : Items) → IsBody body list → source_text list ≡ drop to text → IsMarked (IsDeclared form (IsBody body)) (append front list) × (source_text (append front list) ≡ text)
+  pub only : (items : Items) → IsMarked (IsDeclared form (IsBody body)) items → source_text items ≡ text → (list : Items) × (items ≡ append front list) × IsBody body list × (source_text list ≡ drop to text)
+  pub known : ¬ IsForeign form (after_mark text)
+
+pub unmarked : (form : Declaration → Bool) (body : Body) (text : List ℕ) (front : Items) (to : ℕ) → starts_with nat_eq text mark ≡ false → IsAfter form body text front to → IsFrontBy form body text front to
+unmarked form body text front to none after = record {
+  opens = λ list is joined. let both = after.opens list is joined in (inr (ap (λ t. starts_with nat_eq t mark) both.1 ∙ none, both.0), both.1);
+  only = only;
+  known = λ foreign. after.known (subst (IsForeign form) plain foreign);
+}
+  where
+    plain : after_mark text ≡ text
+    plain = rw none refl
+
+    only : (items : Items) → IsMarked (IsDeclared form (IsBody body)) items → source_text items ≡ text → (list : Items) × (items ≡ append front list) × IsBody body list × (source_text list ≡ drop to text)
+    only items (inl (rest, is, main)) joined =
+        let h : true ≡ false = sym (starts_mark (source_text rest)) ∙ ap (λ t. starts_with nat_eq t mark) (sym (ap source_text is) ∙ joined) ∙ none in absurd (cc)
+    only items (inr (starts, main)) joined = after.only items main joined
+
+pub marked : (form : Declaration → Bool) (body : Body) (text : List ℕ) (front : Items) (len to : ℕ) → starts_with nat_eq text mark ≡ true → to ≡ 3 + len → IsAfter form body (drop 3 text) front len → IsFrontBy form body text (leaf gap mark front) to
+marked form body text front len to some size after = record {
+  opens = λ list is joined. let both = after.opens list is (joined ∙ behind) in (inl (append front list, refl, both.0), ap (λ t. mark ++ t) both.1 ∙ sym (begins_mark text some));
+  only = only;
+  known = λ foreign. after.known (subst (IsForeign form) plain foreign);
+}
+  where
+    plain : after_mark text ≡ drop 3 text
+    plain = rw some refl
+
+    behind : drop to text ≡ drop len (drop 3 text)
+    behind = ap (λ n. drop n text) size ∙ sym (drop-drop len 3 text)
+
+    only : (items : Items) → IsMarked (IsDeclared form (IsBody body)) items → source_text items ≡ text → (list : Items) × (items ≡ append (leaf gap mark front) list) × IsBody body list × (source_text list ≡ drop to text)
+    only items (inl (rest, is, main)) joined =
+        let (list, same, holds, whole) = after.only rest main (ap (drop 3) (sym (ap source_text is) ∙ joined)) in
+        (list, is ∙ ap (leaf gap mark) same, holds, whole ∙ sym behind)
+    only items (inr (starts, main)) joined =
+        let h : false ≡ true = sym starts ∙ ap (λ t. starts_with nat_eq t mark) joined ∙ some in absurd (cc)
+
+pub is_front : (role : FileRole) (text : List ℕ) (front : Items) (to : ℕ) → IsFrontBy (form_of role) (body_for role) text front to → BeginsBody role text to → IsFront role text front to
+is_front role.Document text front to is begins = record { opens = is.opens; only = is.only; known = is.known; begins = begins }
+is_front role.Entity text front to is begins = record { opens = is.opens; only = is.only; known = is.known; begins = begins }
+
+-- a text with items declares no other encoding
+no_foreign_declared : (form : Declaration → Bool) (body : Body) (items : Items) → IsDeclared form (IsBody body) items → IsForeign form (source_text items) → ⊥
+no_foreign_declared form body items (inl (spelled, rest, is, declares, main)) foreign =
+    (after_declared form body (source_text items) spelled (source_text rest) (length spelled) declares (ap source_text is) refl).known foreign
+no_foreign_declared form body items (inr main) (other, foreign) =
+    no_body_declared body items other.spelled other.rest (other.declares, other.is) other.stands main
+
+no_foreign_marked : (form : Declaration → Bool) (body : Body) (text : List ℕ) (items : Items) → IsMarked (IsDeclared form (IsBody body)) items → source_text items ≡ text → IsForeign form (after_mark text) → ⊥
+no_foreign_marked form body text items (inl (rest, is, main)) joined foreign =
+    no_foreign_declared form body rest main (subst (λ (t : List ℕ). IsForeign form (after_mark t)) (sym joined ∙ ap source_text is) foreign)
+no_foreign_marked form body text items (inr (none, main)) joined foreign =
+    let plain : after_mark (source_text items) ≡ source_text items = rw none refl in
+    no_foreign_declared form body items main (subst (IsForeign form) plain (subst (λ (t : List ℕ). IsForeign form (after_mark t)) (sym joined) foreign))
+
+pub no_foreign : (role : FileRole) (text : List ℕ) (items : Items) → IsOrdered (role_of role) items → source_text items ≡ text → IsForeign (form_of role) (after_mark text) → ⊥
+no_foreign role.Document text items ordered joined foreign = no_foreign_marked is_xml_declaration document_body text items ordered joined foreign
+no_foreign role.Entity text items ordered joined foreign = no_foreign_marked is_text_declaration content_body text items ordered joined foreign
+
+-- a body begins at one place
+one_len : (form : Declaration → Bool) (text : List ℕ) (m n : ℕ) → TakesDeclared form text m → TakesDeclared form text n → m ≡ n
+one_len form text m n (inl (d, is)) (inl (e, also)) =
+    is ∙ ap length (one_declaration d.spelled e.spelled d.rest e.rest (sym d.stands ∙ e.stands) (d.declares, d.is) (e.declares, e.is)).0 ∙ sym also
+one_len form text m n (inl (d, is)) (inr (none, zero)) = absurd (none d)
+one_len form text m n (inr (none, zero)) (inl (e, also)) = absurd (none e)
+one_len form text m n (inr (none, zero)) (inr (never, also)) = zero ∙ sym also
+
+pub one_begin : (role : FileRole) (text : List ℕ) (m n : ℕ) → BeginsBody role text m → BeginsBody role text n → m ≡ n
+one_begin role text m n a b = a.to_is ∙ ap (λ k. mark_len text + k) (one_len (form_of role) (after_mark text) a.len b.len a.takes b.takes) ∙ sym b.to_is
+
+-- ---- documents without a front
+
+-- a declaration is no white space
+declared_no_blank : (form : Declaration → Bool) (t : List ℕ) → DeclaresUtf8 form t → list_all is_space t ≡ false
+declared_no_blank form t (d, is, has, utf8) = ap (list_all is_space) (is.spelled ∙ begins is)
+  where
+    begins : (is : IsDeclarationOf d t) → codes "<?xml" ++ is.version ++ is.encoding ++ is.standalone ++ is.blank ++ codes "?>" ≡ 0x3C ∷ (codes "?xml" ++ is.version ++ is.encoding ++ is.standalone ++ is.blank ++ codes "?>")
+    begins is = simp append_assoc
+
+-- a document with white space in front alone is its body
+pub reading_body : (bytes : List ℕ) (items : Items) → IsReading document bytes items → IsPlainItems items → IsBody document_body items × (source_text items ≡ bytes)
+reading_body bytes items is plain = (body is.ordered, is.joined)
+  where
+    declared : (list : Items) → IsPlainItems list → IsDeclared is_xml_declaration (λ main. Leads before_doctype main behind_root) list → Leads before_doctype list behind_root
+    declared list plain (inl (text, rest, same, decl, main)) =
+        let p : IsPlainItems (leaf gap text rest) = subst IsPlainItems same plain in
+        let h : true ≡ false = sym p.0 ∙ declared_no_blank is_xml_declaration text decl in absurd (cc)
+    declared list plain (inr main) = main
+
+    body : IsMarked (IsDeclared is_xml_declaration (λ main. Leads before_doctype main behind_root)) items → Leads before_doctype items behind_root
+    body (inl (rest, same, main)) = let p : IsPlainItems (leaf gap mark rest) = subst IsPlainItems same plain in let h : false ≡ true = p.0 in absurd (cc)
+    body (inr (none, main)) = declared items plain main
+
+pub body_reading : (bytes : List ℕ) (items : Items) → IsUtf8 bytes → starts_with nat_eq bytes mark ≡ false → IsBody document_body items → source_text items ≡ bytes → IsReading document bytes items
+body_reading bytes items utf8 none body joined = record {
+  utf8 = utf8;
+  joined = joined;
+  ordered = inr (ap (λ t. starts_with nat_eq t mark) joined ∙ none, inr body);
+}
+
+-- ---- one reading
+
+one_body : (body : Body) (list others : Items) → IsBody body list → IsBody body others → source_text list ≡ source_text others → list ≡ others
+one_body body list others first second same =
+    one_list body (source_text others) list others (body_is_read body (source_text others) list first same) (body_is_read body (source_text others) others second refl)
+
+one_declared : (form : Declaration → Bool) (body : Body) (list others : Items) → IsDeclared form (IsBody body) list → IsDeclared form (IsBody body) others → source_text list ≡ source_text others → list ≡ others
+one_declared form body list others (inr main) (inr more) same = one_body body list others main more same
+one_declared form body list others (inl (text, rest, is, (d, declares, has, utf8), main)) (inl (other, behind, also, (e, declares_too, has_too, utf8_too), more)) same =
+    let texts = one_declaration text other (source_text rest) (source_text behind) (sym (ap source_text is) ∙ same ∙ ap source_text also) (d, declares) (e, declares_too) in
+    is ∙ ap (λ t. leaf gap t rest) texts.0 ∙ ap (leaf gap other) (one_body body rest behind main more texts.1) ∙ sym also
+one_declared form body list others (inl (text, rest, is, (d, declares, has, utf8), main)) (inr more) same =
+    absurd (no_body_declared body others text (source_text rest) (d, declares) (sym same ∙ ap source_text is) more)
+one_declared form body list others (inr main) (inl (other, behind, also, (e, declares, has, utf8), more)) same =
+    absurd (no_body_declared body list other (source_text behind) (e, declares) (same ∙ ap source_text also) main)
+
+one_marked : (form : Declaration → Bool) (body : Body) (list others : Items) → IsMarked (IsDeclared form (IsBody body)) list → IsMarked (IsDeclared form (IsBody body)) others → source_text list ≡ source_text others → list ≡ others
+one_marked form body list others (inl (rest, is, main)) (inl (behind, also, more)) same =
+    is ∙ ap (leaf gap mark) (one_declared form body rest behind main more (ap (drop 3) (sym (ap source_text is) ∙ same ∙ ap source_text also))) ∙ sym also
+one_marked form body list others (inr (none, main)) (inr (never, more)) same = one_declared form body list others main more same
+one_marked form body list others (inl (rest, is, main)) (inr (never, more)) same =
+    let h : true ≡ false = sym (starts_mark (source_text rest)) ∙ ap (λ t. starts_with nat_eq t mark) (sym (ap source_text is) ∙ same) ∙ never in absurd (cc)
+one_marked form body list others (inr (none, main)) (inl (behind, also, more)) same =
+    let h : true ≡ false = sym (starts_mark (source_text behind)) ∙ ap (λ t. starts_with nat_eq t mark) (sym (ap source_text also) ∙ sym same) ∙ none in absurd (cc)
+
+-- a text has at most one reading as a document
+pub one_tree : (text : List ℕ) (a b : Items) → IsReading document text a → IsReading document text b → a ≡ b
+one_tree text a b x y = one_marked is_xml_declaration document_body a b x.ordered y.ordered (x.joined ∙ sym y.joined)
+
+-- .. as an external parsed entity
+pub one_entity : (text : List ℕ) (a b : Items) → IsReading entity text a → IsReading entity text b → a ≡ b
+one_entity text a b x y = one_marked is_text_declaration content_body a b x.ordered y.ordered (x.joined ∙ sym y.joined)

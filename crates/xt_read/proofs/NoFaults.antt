@@ -1,0 +1,126 @@
+-- A file that has a reading has no fault, and any other has one fault at most.
+use Rattle.std.proofs.Common.{◌≡◌, ◌∙◌, ◌≤◌, List, ℕ, length, drop, refl, sym, ap, subst, arith, inl, inr, Some, None, true, false}
+use Rattle.std.proofs.lemmas.List.{length-drop}
+use Rattle.std.proofs.lemmas.Str.{utf8_valid_len-IsValidUpTo}
+use Rattle.xt_spec.specs.Tree.{Items, source_text}
+use Rattle.xt_spec.specs.Reading.{IsReading, IsOrdered}
+use Rattle.xt_read.specs.Front.{body_for, role_of}
+use Rattle.xt_read.specs.Run.{Body, Tok, tok_text, IsToken, State, begin, is_too_deep, step}
+use Rattle.xt_read.specs.Faults.{Passes, here, past, IsTooDeep, IsHalt, IsHaltAt, IsBodyFault, IsBehindFront, IsFaultOf}
+use Rattle.xt_read.specs.declared.front.FileRole.{FileRole}
+use Rattle.xt_read.specs.declared.unread.Unread.{Unread}
+use Rattle.xt_read.specs.declared.unread.Unread.TheVariants.{NotUtf8, Encoding, NotWellFormed, TooDeep, NoMemory}
+use Rattle.xt_read.proofs.Complete.{body_is_read}
+use Rattle.xt_read.proofs.Fronts.{no_foreign, one_begin}
+use Rattle.xt_read.proofs.Runs.{no_items, some_same, no_token_of_nil, too_deep_none}
+use Rattle.xt_read.proofs.Tokens.{token_unique}
+
+-- a text with items has no fault behind its front
+none_behind : (r : FileRole) (text : List ℕ) (items : Items) (fault : Unread) → IsOrdered (role_of r) items → source_text items ≡ text → IsBehindFront r text fault → (fault ≡ NoMemory → ⊥) → ⊥
+none_behind r text items fault ordered joined is some =
+    let (list, same, main, rest) = is.is.only items ordered joined in
+    no_items (body_for r) text is.to fault list is.fault some (body_is_read (body_for r) (drop is.to text) list main rest)
+
+pub no_fault : (r : FileRole) (bytes : List ℕ) (items : Items) (fault : Unread) → IsReading (role_of r) bytes items → IsFaultOf r bytes fault → fault ≡ NoMemory
+no_fault r bytes items (NotUtf8 at) is fault = absurd (fault.0 is.utf8)
+no_fault r bytes items Encoding is fault = absurd (no_foreign r bytes items is.ordered is.joined fault.1)
+no_fault r bytes items (NotWellFormed at) is fault = absurd (none_behind r bytes items (NotWellFormed at) is.ordered is.joined fault.1 (λ e. cc))
+no_fault r bytes items TooDeep is fault = absurd (none_behind r bytes items TooDeep is.ordered is.joined fault.1 (λ e. cc))
+no_fault r bytes items NoMemory is fault = refl
+
+-- ---- one fault
+
+-- no token of the text is read on from here
+abbrev Stops : State → List ℕ → Type 0
+Stops s text = (t : State) (tok : Tok) → IsToken tok text → step s tok ≡ Some t → ⊥
+
+misplaced_stops : (s : State) (text : List ℕ) (tok : Tok) → IsToken tok text → step s tok ≡ None → Stops s text
+misplaced_stops s text tok is none t other found steps =
+    let same : other ≡ tok = token_unique other tok text found is in
+    let e : step s tok ≡ Some t = subst (λ (k : Tok). step s k ≡ Some t) same steps in cc
+
+halt_stops : (s : State) (text : List ℕ) → IsHalt s text → Stops s text
+halt_stops s text (inl (some, none)) t tok is steps = none is.kind (length (tok_text tok)) is.longest.front
+halt_stops s text (inr (inl misplaced)) t tok is steps = misplaced_stops s text misplaced.tok misplaced.is misplaced.none t tok is steps
+halt_stops s text (inr (inr (end, never))) t tok is steps = no_token_of_nil tok (subst (λ (x : List ℕ). IsToken tok x) end is)
+
+fault_stops : (text : List ℕ) (at : ℕ) (s : State) (fault : Unread) → IsHaltAt text at s fault → (fault ≡ NoMemory → ⊥) → Stops s (drop at text)
+fault_stops text at s (NotWellFormed place) is some = halt_stops s (drop at text) is.1
+fault_stops text at s TooDeep is some = misplaced_stops s (drop at text) is.tok is.is (too_deep_none s is.tok is.level)
+fault_stops text at s NoMemory is some = absurd (some refl)
+fault_stops text at s (NotUtf8 place) is some = absurd is
+fault_stops text at s Encoding is some = absurd is
+
+-- a text is read to one place where it is read no further
+one_stop : (s u v : State) (text rest more : List ℕ) → Passes s text u rest → Passes s text v more → Stops u rest → Stops v more → (u ≡ v) × (rest ≡ more)
+one_stop s u v text rest more (here s' text') (here t' other') first second = (refl, refl)
+one_stop s u v text rest more (here s' text') (past s'' t v' text'' more' tok is steps others) first second = absurd (first t tok is steps)
+one_stop s u v text rest more (past s' t u' text' rest' tok is steps others) (here s'' text'') first second = absurd (second t tok is steps)
+one_stop s u v text rest more (past s' t u' text' rest' tok is steps others) (past s'' t' v' text'' more' tok' is' steps' others') first second =
+    let same : tok' ≡ tok = token_unique tok' tok text is' is in
+    let same_state : t' ≡ t = some_same (step s tok) t' t (subst (λ (k : Tok). step s k ≡ Some t') same steps') steps in
+    let on : Passes t (drop (length (tok_text tok)) text) v more =
+    subst (λ (w : State). Passes w (drop (length (tok_text tok)) text) v more) same_state (subst (λ (k : Tok). Passes t' (drop (length (tok_text k)) text) v more) same others') in
+    one_stop t u v (drop (length (tok_text tok)) text) rest more others on first second
+
+-- a halt is no tag at level 129
+not_too_deep : (s : State) (text : List ℕ) → IsHalt s text → IsTooDeep s text → ⊥
+not_too_deep s text (inl (some, none)) deep = none deep.is.kind (length (tok_text deep.tok)) deep.is.longest.front
+not_too_deep s text (inr (inl is)) deep =
+    let same : deep.tok ≡ is.tok = token_unique deep.tok is.tok text deep.is is.is in
+    let e : is_too_deep s is.tok ≡ true = subst (λ (k : Tok). is_too_deep s k ≡ true) same deep.level in
+    let h : true ≡ false = sym e ∙ is.level in cc
+not_too_deep s text (inr (inr (end, never))) deep = no_token_of_nil deep.tok (subst (λ (x : List ℕ). IsToken deep.tok x) end deep.is)
+
+-- two faults of one place are one
+one_at : (text : List ℕ) (at : ℕ) (s : State) (a b : Unread) → IsHaltAt text at s a → IsHaltAt text at s b → (a ≡ NoMemory → ⊥) → (b ≡ NoMemory → ⊥) → a ≡ b
+one_at text at s (NotWellFormed m) (NotWellFormed n) x y some more = ap NotWellFormed (x.0 ∙ sym y.0)
+one_at text at s (NotWellFormed m) TooDeep x y some more = absurd (not_too_deep s (drop at text) x.1 y)
+one_at text at s TooDeep (NotWellFormed n) x y some more = absurd (not_too_deep s (drop at text) y.1 x)
+one_at text at s TooDeep TooDeep x y some more = refl
+one_at text at s NoMemory b x y some more = absurd (some refl)
+one_at text at s (NotUtf8 m) b x y some more = absurd x
+one_at text at s Encoding b x y some more = absurd x
+one_at text at s (NotWellFormed m) NoMemory x y some more = absurd (more refl)
+one_at text at s (NotWellFormed m) (NotUtf8 n) x y some more = absurd y
+one_at text at s (NotWellFormed m) Encoding x y some more = absurd y
+one_at text at s TooDeep NoMemory x y some more = absurd (more refl)
+one_at text at s TooDeep (NotUtf8 n) x y some more = absurd y
+one_at text at s TooDeep Encoding x y some more = absurd y
+
+one_place : (text : List ℕ) (m n : ℕ) → m ≤ length text → n ≤ length text → drop m text ≡ drop n text → m ≡ n
+one_place text m n first second same = omega (arith, first, second, sym (length-drop m text) ∙ ap length same ∙ length-drop n text)
+
+one_body_fault : (body : Body) (text : List ℕ) (from : ℕ) (a b : Unread) → IsBodyFault body text from a → IsBodyFault body text from b → (a ≡ NoMemory → ⊥) → (b ≡ NoMemory → ⊥) → a ≡ b
+one_body_fault body text from a b x y some more =
+    let stop = one_stop (begin body) x.state y.state (drop from text) (drop x.at text) (drop y.at text) x.passes y.passes (fault_stops text x.at x.state a x.halts some) (fault_stops text y.at y.state b y.halts more) in
+    let at : x.at ≡ y.at = one_place text x.at y.at x.within y.within stop.1 in
+    one_at text y.at y.state a b (subst (λ (n : ℕ). IsHaltAt text n y.state a) at (subst (λ (s : State). IsHaltAt text x.at s a) stop.0 x.halts)) y.halts some more
+
+one_behind : (r : FileRole) (text : List ℕ) (a b : Unread) → IsBehindFront r text a → IsBehindFront r text b → (a ≡ NoMemory → ⊥) → (b ≡ NoMemory → ⊥) → a ≡ b
+one_behind r text a b x y some more =
+    let to : x.to ≡ y.to = one_begin r text x.to y.to x.is.begins y.is.begins in
+    one_body_fault (body_for r) text y.to a b (subst (λ (n : ℕ). IsBodyFault (body_for r) text n a) to x.fault) y.fault some more
+
+pub one_fault : (r : FileRole) (bytes : List ℕ) (a b : Unread) → IsFaultOf r bytes a → IsFaultOf r bytes b → (a ≡ NoMemory → ⊥) → (b ≡ NoMemory → ⊥) → a ≡ b
+one_fault r bytes (NotUtf8 m) (NotUtf8 n) x y some more = ap NotUtf8 (sym (utf8_valid_len-IsValidUpTo bytes m x.1) ∙ utf8_valid_len-IsValidUpTo bytes n y.1)
+one_fault r bytes (NotUtf8 m) Encoding x y some more = absurd (x.0 y.0)
+one_fault r bytes (NotUtf8 m) (NotWellFormed n) x y some more = absurd (x.0 y.0)
+one_fault r bytes (NotUtf8 m) TooDeep x y some more = absurd (x.0 y.0)
+one_fault r bytes (NotUtf8 m) NoMemory x y some more = absurd (more refl)
+one_fault r bytes Encoding (NotUtf8 n) x y some more = absurd (y.0 x.0)
+one_fault r bytes Encoding Encoding x y some more = refl
+one_fault r bytes Encoding (NotWellFormed n) x y some more = absurd (y.1.is.known x.1)
+one_fault r bytes Encoding TooDeep x y some more = absurd (y.1.is.known x.1)
+one_fault r bytes Encoding NoMemory x y some more = absurd (more refl)
+one_fault r bytes (NotWellFormed m) (NotUtf8 n) x y some more = absurd (y.0 x.0)
+one_fault r bytes (NotWellFormed m) Encoding x y some more = absurd (x.1.is.known y.1)
+one_fault r bytes (NotWellFormed m) (NotWellFormed n) x y some more = one_behind r bytes (NotWellFormed m) (NotWellFormed n) x.1 y.1 some more
+one_fault r bytes (NotWellFormed m) TooDeep x y some more = one_behind r bytes (NotWellFormed m) TooDeep x.1 y.1 some more
+one_fault r bytes (NotWellFormed m) NoMemory x y some more = absurd (more refl)
+one_fault r bytes TooDeep (NotUtf8 n) x y some more = absurd (y.0 x.0)
+one_fault r bytes TooDeep Encoding x y some more = absurd (x.1.is.known y.1)
+one_fault r bytes TooDeep (NotWellFormed n) x y some more = one_behind r bytes TooDeep (NotWellFormed n) x.1 y.1 some more
+one_fault r bytes TooDeep TooDeep x y some more = refl
+one_fault r bytes TooDeep NoMemory x y some more = absurd (more refl)
+one_fault r bytes NoMemory b x y some more = absurd (some refl)

@@ -1,0 +1,20 @@
+use Rattle.std.proofs.Common.{◌≡◌, List, ℕ, subst}
+use Rattle.std.proofs.lemmas.Result.{IfOk-weaker, IfErr-weaker}
+use Rattle.xt_spec.specs.Tree.{source_text}
+use Rattle.xt_spec.specs.Reading.{IsOrdered}
+use Rattle.xt_tree.specs.Meaning.{items_in}
+use Rattle.xt_read.specs.Front.{role_of}
+use Rattle.xt_read.proofs.FrontPlaces.{file_fault}
+use Rattle.xt_read.proofs.document.read_as.Goals as goal
+
+pub returns-in-Ok-clause-value : goal.returns-in-Ok-clause-value
+returns-in-Ok-clause-value c =
+    let bytes = c.args.bytes.now in
+    IfOk-weaker c.read_text_as.result _ _ (λ items is. record {
+      utf8 = c.in-Ok.ensures.1;
+      joined = subst (λ (t : List ℕ). source_text (items_in t items) ≡ t) c.in-Ok.ensures.0 is.1;
+      ordered = subst (λ (t : List ℕ). IsOrdered (role_of c.args.role) (items_in t items)) c.in-Ok.ensures.0 is.0;
+    }) c.read_text_as.ensures.value
+
+pub returns-in-Ok-clause-fault : goal.returns-in-Ok-clause-fault
+returns-in-Ok-clause-fault c = IfErr-weaker c.read_text_as.result _ _ (λ e is. file_fault c.args.role c.args.bytes.now c.in-Ok.text.now e c.in-Ok.ensures.0 c.in-Ok.ensures.1 is) c.read_text_as.ensures.fault

@@ -1,0 +1,89 @@
+-- Why a text is not read on, and the first fault of a file; the order of faults is of this project, what is well-formed is
+-- said by the readings.
+--
+--   fault_at    a halt at a place, as a fault
+--   Passes      a front of the text is read, token by token
+--   IsHalt      the text is not read on in this state: no token stands, or one that may not, or it ends too early
+--   IsTooDeep   .. a tag would begin an element at level 129
+--   IsHaltAt    the fault of one place
+--   IsBodyFault the first fault of a body
+--   IsFaultOf   the first fault of a file
+use Rattle.std.specs.Prelude.{◌≡◌, ◌≢◌, ◌≤◌, ◌⊎◌, ℕ, true, false, List, [], drop, length, Some, None, IsUtf8}
+use Rattle.std.specs.Str.{IsValidUpTo}
+use Rattle.xt_spec.specs.Token.{NoFront}
+use Rattle.xt_read.specs.Run.{Body, Tok, tok_text, IsToken, State, begin, is_too_deep, step, IsWhole}
+use Rattle.xt_spec.specs.Tree.{Items}
+use Rattle.xt_read.specs.Front.{form_of, body_for, after_mark, IsForeign, IsFront}
+use Rattle.xt_read.specs.declared.front.FileRole.{FileRole}
+use Rattle.xt_read.specs.declared.unread.Unread.{Unread}
+use Rattle.xt_read.specs.declared.unread.Unread.TheVariants as unread
+use Rattle.xt_read.specs.declared.unread.Halt.{Halt}
+use Rattle.xt_read.specs.declared.unread.Halt.TheVariants as halt
+
+abbrev pub fault_at : Halt → ℕ → Unread
+fault_at halt.Misplaced at = unread.NotWellFormed at
+fault_at halt.TooDeep at = unread.TooDeep
+fault_at halt.NoMemory at = unread.NoMemory
+
+-- from one state a front of the text is read to another, before the rest: each token is the longest at its place, and may
+-- stand there
+pub data Passes : State → List ℕ → State → List ℕ → Type 0 where
+  here : (s : State) (text : List ℕ) → Passes s text s text
+  past : (s t u : State) (text rest : List ℕ) (tok : Tok) → IsToken tok text → step s tok ≡ Some t
+      → Passes t (drop (length (tok_text tok)) text) u rest → Passes s text u rest
+
+-- a token stands in front that may not, though not for its level
+pub record IsMisplaced (s : State) (text : List ℕ) : Type 0 where
+  pub tok : Tok
+  pub is : IsToken tok text
+  pub none : step s tok ≡ None
+  pub level : is_too_deep s tok ≡ false
+
+pub record IsTooDeep (s : State) (text : List ℕ) : Type 0 where
+  pub tok : Tok
+  pub is : IsToken tok text
+  pub level : is_too_deep s tok ≡ true
+
+-- the text is not read on: no token stands in front, or one that may not; or it ends where something is left open
+abbrev pub IsHalt : State → List ℕ → Type 0
+IsHalt s text = ((text ≢ []) × NoFront text) ⊎ (IsMisplaced s text ⊎ ((text ≡ []) × ¬ IsWhole s))
+
+-- the fault of the text at this place, in this state; those of the whole file are none
+abbrev pub IsHaltAt : List ℕ → ℕ → State → Unread → Type 0
+IsHaltAt text at s (unread.NotWellFormed place) = (place ≡ at) × IsHalt s (drop at text)
+IsHaltAt text at s unread.TooDeep = IsTooDeep s (drop at text)
+IsHaltAt text at s unread.NoMemory = Unit {0}
+IsHaltAt text at s (unread.NotUtf8 place) = ⊥
+IsHaltAt text at s unread.Encoding = ⊥
+
+-- the body that begins at one place is read up to another, and no further
+pub record IsBodyFault (body : Body) (text : List ℕ) (from : ℕ) (fault : Unread) : Type 0 where
+  pub at : ℕ
+  pub order : from ≤ at
+  pub within : at ≤ length text
+  pub state : State
+  pub passes : Passes (begin body) (drop from text) state (drop at text)
+  pub halts : IsHaltAt text at state fault
+
+-- .. behind what stands in front
+pub record IsBehindFront (role : FileRole) (text : List ℕ) (unread : Unread) : Type 0 where
+  pub front : Items
+  pub to : ℕ
+  pub is : IsFront role text front to
+  pub fault : IsBodyFault (body_for role) text to unread
+
+-- the first fault of a text in this role: the encoding that it declares, or where its body is read no further
+abbrev pub IsTextFault : FileRole → List ℕ → Unread → Type 0
+IsTextFault role text unread.NoMemory = Unit {0}
+IsTextFault role text unread.Encoding = IsForeign (form_of role) (after_mark text)
+IsTextFault role text (unread.NotUtf8 at) = ⊥
+IsTextFault role text (unread.NotWellFormed at) = IsBehindFront role text (unread.NotWellFormed at)
+IsTextFault role text unread.TooDeep = IsBehindFront role text unread.TooDeep
+
+-- the first fault of a file: its bytes aren't UTF-8 behind so many, or that of its text
+abbrev pub IsFaultOf : FileRole → List ℕ → Unread → Type 0
+IsFaultOf role bytes unread.NoMemory = Unit {0}
+IsFaultOf role bytes (unread.NotUtf8 at) = (¬ IsUtf8 bytes) × IsValidUpTo bytes at
+IsFaultOf role bytes unread.Encoding = IsUtf8 bytes × IsTextFault role bytes unread.Encoding
+IsFaultOf role bytes (unread.NotWellFormed at) = IsUtf8 bytes × IsTextFault role bytes (unread.NotWellFormed at)
+IsFaultOf role bytes unread.TooDeep = IsUtf8 bytes × IsTextFault role bytes unread.TooDeep

@@ -1,0 +1,61 @@
+-- A declaration at a place of a text.
+--
+--   IsDeclarationAt  one stands there, with this span; NoDeclarationAt: none does
+--   IsDeclaredAt     .. of a form, that names no other encoding than UTF-8
+--   IsFrontFault     why a front is not read
+--   front_items      the gaps of a mark and a declaration; front_marks: their marks
+use Rattle.std.specs.Prelude.{◌≡◌, ◌⊎◌, ℕ, ◌<◌, ◌≤◌, Bool, List, [], ◌∷◌, ◌++◌, length, drop, ◌==◌, if◌then◌else◌, Option, None, Some}
+use Rattle.std.specs.Str.{IsCharBoundary}
+use Rattle.xt_spec.specs.Declaration.{Declaration, IsDeclaration}
+use Rattle.xt_spec.specs.Reading.{DeclaresUtf8}
+use Rattle.xt_lex.specs.declared.token.Span.{Span}
+use Rattle.xt_spec.specs.Tree.{Items, nil, leaf, gap}
+use Rattle.xt_tree.specs.Meaning.{at_span}
+use Rattle.xt_tree.specs.Places.{Mark, span_mark}
+use Rattle.xt_read.specs.Front.{form_of, after_mark, IsForeign}
+use Rattle.xt_read.specs.declared.front.FileRole.{FileRole}
+use Rattle.xt_read.specs.declared.unread.Unread.{Unread}
+use Rattle.xt_read.specs.declared.unread.Unread.TheVariants as unread
+
+pub record IsDeclarationAt (text : List ℕ) (at : ℕ) (span : Span) : Type 0 where
+  pub from_is : span.from ≡ at
+  pub some : at < span.to
+  pub within : span.to ≤ length text
+  pub cut : IsCharBoundary text span.to
+  pub is : IsDeclaration (at_span text span)
+  pub stands : drop at text ≡ at_span text span ++ drop span.to text
+
+abbrev pub NoDeclarationAt : List ℕ → ℕ → Type 0
+NoDeclarationAt text at = (spelled rest : List ℕ) → drop at text ≡ spelled ++ rest → ¬ IsDeclaration spelled
+
+pub record IsDeclaredAt (form : Declaration → Bool) (text : List ℕ) (at : ℕ) (span : Span) : Type 0 where
+  pub place : IsDeclarationAt text at span
+  pub declares : DeclaresUtf8 form (at_span text span)
+
+-- want of memory, or another encoding
+abbrev pub IsFrontFault : FileRole → List ℕ → Unread → Type 0
+IsFrontFault role text e = (e ≡ unread.NoMemory) ⊎ ((e ≡ unread.Encoding) × IsForeign (form_of role) (after_mark text))
+
+-- the gap of a byte order mark of so many bytes, or none
+abbrev pub mark_gap : List ℕ → ℕ → Items → Items
+mark_gap text len rest = if len == 0 then rest else leaf gap (at_span text (record { from = 0; to = len })) rest
+
+-- .. of a declaration with this span
+abbrev pub declared_gap : List ℕ → Option Span → Items
+declared_gap text None = nil
+declared_gap text (Some span) = leaf gap (at_span text span) nil
+
+abbrev pub front_items : List ℕ → ℕ → Option Span → Items
+front_items text len declared = mark_gap text len (declared_gap text declared)
+
+abbrev pub declared_marks : Option Span → List Mark
+declared_marks None = []
+declared_marks (Some span) = span_mark span ∷ []
+
+abbrev pub front_marks : ℕ → Option Span → List Mark
+front_marks len declared = if len == 0 then declared_marks declared else span_mark (record { from = 0; to = len }) ∷ declared_marks declared
+
+-- where the body begins
+abbrev pub front_len : ℕ → Option Span → ℕ
+front_len len None = len
+front_len len (Some span) = span.to

@@ -1,0 +1,164 @@
+//! What stands in front of a body: a byte order mark and a declaration.
+
+ghost use Rattle.std.specs.Prelude.{◌≡◌, ◌<◌, ◌≤◌, ◌^◌, ℕ, List, length, drop, nat_eq, IfOk, IfErr, MatchOption, if◌then◌else◌};
+ghost use Rattle.std.specs.List.{starts_with};
+ghost use Rattle.std.specs.Str.{IsCharBoundary};
+ghost use Rattle.xt_spec.specs.Reading.{mark};
+ghost use Rattle.xt_lex.specs.DeclaredValues.{values_of};
+ghost use Rattle.xt_tree.specs.Meaning.{at_span, items_in};
+ghost use Rattle.xt_tree.specs.Places.{marks_of, AreInPlace};
+ghost use Rattle.xt_read.specs.Progress.{body_of};
+ghost use Rattle.xt_read.specs.Front.{form_of, body_for, NoDeclared, IsForeign, IsFront};
+ghost use Rattle.xt_read.specs.FrontSteps.{IsDeclarationAt, IsFrontFault, NoDeclarationAt, IsDeclaredAt, front_items, front_marks, front_len};
+
+use crate::stage::Body;
+use crate::unread::Unread;
+use sqlite_items::Items;
+use std::alloc::{AllocError, Global};
+use xt_lex::{Declaration, Kind, Span, next_token, read_declaration};
+use xt_tree::Src;
+
+/// In which role a file of XML is read.
+#[derive(Clone, Copy, Debug, PartialEq, Eq)]
+pub(crate) enum FileRole {
+    Document,
+    /// An external parsed entity.
+    Entity,
+}
+
+impl FileRole {
+    /// What follows in front.
+    pub(crate) fn body(self) -> Body
+        ensures { body_of result ≡ body_for self }
+    {
+        match self {
+            FileRole::Document => Body::Document,
+            FileRole::Entity => Body::Content,
+        }
+    }
+
+    /// Whether a declaration has the form that belongs in front.
+    fn has(self, declaration: Declaration<'_>) -> bool
+        ensures { result ≡ form_of self (values_of declaration.entry) }
+    {
+        match self {
+            FileRole::Document => declaration.is_xml_declaration(),
+            FileRole::Entity => declaration.is_text_declaration(),
+        }
+    }
+}
+
+/// The gaps in front of a body, and where it begins.
+#[derive(Debug, Drop)]
+pub(crate) struct Front {
+    pub(crate) gaps: Items<Src>,
+    pub(crate) to: usize,
+}
+
+/// How many bytes the byte order mark takes, where the text begins with one.
+fn mark_len(text: &str) -> usize
+    ensures value { result ≡ (if starts_with nat_eq text.now mark then 3 else 0) }
+    ensures within { result ≤ length text.now }
+    ensures cut { IsCharBoundary text.now result }
+{
+    if text.as_bytes().starts_with(b"\xEF\xBB\xBF") {
+        3
+    } else {
+        0
+    }
+}
+
+/// The span of the declaration that begins at a place.
+fn declaration_at(text: &str, at: usize) -> Option<Span>
+    requires within { at ≤ length text.now }
+    requires boundary { IsCharBoundary text.now at }
+    requires fits { length text.now < 2 ^ 32 }
+    ensures value { MatchOption result (NoDeclarationAt text.now at) (IsDeclarationAt text.now at) }
+{
+    if at == text.len() {
+        return None;
+    }
+    let Ok(token) = next_token(text, at) else {
+        return None;
+    };
+    match token.kind {
+        Kind::Decl => Some(token.span),
+        _ => None,
+    }
+}
+
+/// The span of the declaration at a place, where it has the form that belongs there.
+fn declared_at(text: &str, at: usize, role: FileRole) -> Result<Option<Span>, Unread>
+    requires within { at ≤ length text.now }
+    requires boundary { IsCharBoundary text.now at }
+    requires fits { length text.now < 2 ^ 32 }
+    ensures value { IfOk result (λ found. MatchOption found (NoDeclared (form_of role) (drop at text.now)) (IsDeclaredAt (form_of role) text.now at)) }
+    ensures fault { IfErr result (λ e. (e ≡ Unread.Encoding) × IsForeign (form_of role) (drop at text.now)) }
+{
+    let Some(span) = declaration_at(text, at) else {
+        return Ok(None);
+    };
+    let Some(declaration) = read_declaration(&text[span.from as usize..span.to as usize]) else {
+        return Ok(None);
+    };
+    if !role.has(declaration) {
+        return Ok(None);
+    }
+    if declaration.is_utf8_or_absent() {
+        Ok(Some(span))
+    } else {
+        Err(Unread::Encoding)
+    }
+}
+
+/// The gaps of a byte order mark of so many bytes, and of a declaration.
+fn gaps_of(alloc: Global, mark: usize, declared: Option<Span>) -> Result<Items<Src>, AllocError>
+    requires fits { mark < 2 ^ 32 }
+    ensures value { (text : List ℕ) → IfOk result (λ gaps. items_in text gaps ≡ front_items text mark declared) }
+    ensures place { (text : List ℕ) → IfOk result (λ gaps. marks_of gaps ≡ front_marks mark declared) }
+{
+    let mut gaps = Items::new(alloc);
+    if mark != 0 {
+        gaps.push(Src::Gap(Span {
+            from: 0,
+            to: mark as u32,
+        }))?;
+    }
+    if let Some(span) = declared {
+        gaps.push(Src::Gap(span))?;
+    }
+    Ok(gaps)
+}
+
+/// Where the body begins, behind a byte order mark of so many bytes and a declaration.
+fn front_len(mark: usize, declared: Option<Span>) -> usize
+    ensures { result ≡ front_len mark declared }
+{
+    match declared {
+        Some(span) => span.to as usize,
+        None => mark,
+    }
+}
+
+/// What stands in front of a body.
+pub(crate) fn read_front(alloc: Global, text: &str, role: FileRole) -> Result<Front, Unread>
+    requires fits { length text.now < 2 ^ 32 }
+    ensures value { IfOk result (λ front. IsFront role text.now (items_in text.now front.gaps) front.to) }
+    ensures place { IfOk result (λ front. AreInPlace text.now 0 (marks_of front.gaps) front.to) }
+    ensures within { IfOk result (λ front. front.to ≤ length text.now) }
+    ensures cut { IfOk result (λ front. IsCharBoundary text.now front.to) }
+    ensures fault { IfErr result (IsFrontFault role text.now) }
+{
+    let mark = mark_len(text);
+    let declared = match declared_at(text, mark, role) {
+        Ok(declared) => declared,
+        Err(unread) => return Err(unread),
+    };
+    match gaps_of(alloc, mark, declared) {
+        Ok(gaps) => Ok(Front {
+            gaps,
+            to: front_len(mark, declared),
+        }),
+        Err(_) => Err(Unread::NoMemory),
+    }
+}

@@ -1,0 +1,59 @@
+-- Markup that is no tag, after XML 1.0 (Fifth Edition), sections 2.5 to 2.7, and Namespaces in XML 1.0, section 7. A text
+-- is the list of its bytes, as written.
+--
+--   begins           the text begins with a needle
+--   lacks            the needle stands nowhere in the text
+--   AreChars         any number of [2] Char
+--   IsSectionOf      [18] CDSect of these characters; IsCDataSection: of some
+--   IsComment        [15] Comment
+--   IsPi             [16] PI
+use Rattle.std.specs.Prelude.{◌≡◌, ◌⊎◌, ℕ, Bool, true, false, not, ◌&&◌, ◌==◌, IsTrue, List, [], ◌∷◌, ◌++◌, codes}
+use Rattle.std.specs.List.{list_all}
+use Rattle.std.specs.Str.{str_eq_ignore_ascii_case}
+use Rattle.xt_spec.specs.Char.{is_char}
+use Rattle.xt_spec.specs.Name.{IsSpeltBy, IsNCName}
+use Rattle.xt_spec.specs.Tag.{IsSpace}
+
+-- the text begins with the needle
+abbrev pub begins : List ℕ → List ℕ → Bool
+begins [] text = true
+begins (c ∷ needle) [] = false
+begins (c ∷ needle) (b ∷ text) = b == c && begins needle text
+
+-- the needle, of one or more bytes, begins at no place of the text
+abbrev pub lacks : List ℕ → List ℕ → Bool
+lacks needle [] = true
+lacks needle (b ∷ text) = not (begins needle (b ∷ text)) && lacks needle text
+
+-- Char*
+abbrev pub AreChars : List ℕ → Type 0
+AreChars text = IsSpeltBy (λ cs. list_all is_char cs) text
+
+-- [18] CDSect of these characters: [20] CData is any number of Chars without `]]>`
+abbrev pub IsSectionOf : List ℕ → List ℕ → Type 0
+IsSectionOf text inner = AreChars inner × IsTrue (lacks (codes "]]>") inner) × (text ≡ codes "<![CDATA[" ++ inner ++ codes "]]>")
+
+-- [18] CDSect
+abbrev pub IsCDataSection : List ℕ → Type 0
+IsCDataSection text = (inner : List ℕ) × AreChars inner × IsTrue (lacks (codes "]]>") inner) × (text ≡ codes "<![CDATA[" ++ inner ++ codes "]]>")
+
+-- [15] Comment: with the first `-` of its end behind it, the text holds no `--`; so it holds none, and doesn't end in `-`
+abbrev pub IsComment : List ℕ → Type 0
+IsComment text = (inner : List ℕ) × AreChars inner × IsTrue (lacks (codes "--") (inner ++ codes "-")) × (text ≡ codes "<!--" ++ inner ++ codes "-->")
+
+-- `xml`, in any letter case
+abbrev pub is_reserved : List ℕ → Bool
+is_reserved target = str_eq_ignore_ascii_case target (codes "xml")
+
+-- [17] PITarget, without a colon (Namespaces, section 7)
+abbrev pub IsPiTarget : List ℕ → Type 0
+IsPiTarget target = IsNCName target × (is_reserved target ≡ false)
+
+-- what stands behind the target of a PI: nothing, or white space and any number of Chars without `?>`
+abbrev pub IsPiData : List ℕ → Type 0
+IsPiData text = (text ≡ [])
+    ⊎ ((space inner : List ℕ) × IsSpace space × AreChars inner × IsTrue (lacks (codes "?>") inner) × (text ≡ space ++ inner))
+
+-- [16] PI
+abbrev pub IsPi : List ℕ → Type 0
+IsPi text = (target inner : List ℕ) × IsPiTarget target × IsPiData inner × (text ≡ codes "<?" ++ target ++ inner ++ codes "?>")
