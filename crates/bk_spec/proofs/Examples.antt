@@ -1,6 +1,6 @@
 -- The printed tree, computed.
-use Rattle.std.proofs.Common.{◌≡◌, refl, [], ◌∷◌, ◌++◌, codes, List, ℕ, Bool, false, bytes_eq}
-use Rattle.bk_spec.specs.Node.{owned, written, Attr, Head, Nodes, no_nodes, element_node, text_node}
+use Rattle.std.proofs.Common.{◌≡◌, refl, [], codes, false, bytes_eq}
+use Rattle.bk_spec.specs.Node.{owned, Nodes, no_nodes, element_node, text_node}
 use Rattle.bk_spec.specs.Print.{print_tree, quoted_text}
 
 hi : Nodes

@@ -1,3 +1,5 @@
 pub mod Node
 pub mod Print
-pub mod PlainNodes
+pub mod Fault
+pub mod DocumentNodes
+pub mod Opening

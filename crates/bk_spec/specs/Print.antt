@@ -4,7 +4,7 @@
 --
 --   print_nodes  the lines of the nodes, behind these spaces, within an element of this base URI (none: at the top)
 --   print_tree   the lines of a tree
-use Rattle.std.specs.Prelude.{ℕ, Bool, List, [], ◌∷◌, ◌++◌, ◌==◌, if◌then◌else◌, length, codes, bytes_eq, Option, None, Some}
+use Rattle.std.specs.Prelude.{ℕ, List, [], ◌∷◌, ◌++◌, ◌==◌, if◌then◌else◌, length, codes, bytes_eq, Option, None, Some}
 use Rattle.std.specs.List.{flat_map}
 use Rattle.bk_spec.specs.Node.{Origin, owned, from_entity, How, written, by_default, by_fixup, Attr, Head, Nodes, no_nodes, element_node, text_node, comment_node, pi_node}
 

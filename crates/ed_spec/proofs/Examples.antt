@@ -1,5 +1,5 @@
 -- Places and an edited tree, computed.
-use Rattle.std.proofs.Common.{◌≡◌, List, ℕ, refl, [], ◌∷◌, ◌++◌, codes, true, false, bytes_eq, Some, None}
+use Rattle.std.proofs.Common.{◌≡◌, List, ℕ, refl, [], ◌∷◌, codes, true, false, Some, None}
 use Rattle.xt_spec.specs.Tree.{Items, nil, element, leaf, text_item, gap, source_text}
 use Rattle.bk_spec.specs.Node.{Nodes, no_nodes, element_node, text_node, owned}
 use Rattle.ed_spec.specs.TextEdit.{text_edited}

@@ -1,21 +1,23 @@
 -- Places of the printed tree; of this project. A place is a list of numbers from 1: the first is that of a node among those
 -- at the top of a document, each further one that of a child of the element before.
--- Here: no two texts stand side by side, and no reference shows more than one node, as in a plain document.
+-- Here: no two texts stand side by side, and no reference shows more than one node, as in a document that needs no
+-- declaration.
 --
 --   path_of   the path of the item that gives the node at a place, where there is one
 --   text_set  the nodes with another value in the place of the text that a place names
-use Rattle.std.specs.Prelude.{ℕ, zero, suc, ◌-◌, List, [], ◌∷◌, Bool, true, false, if◌then◌else◌, Option, None, Some}
+use Rattle.std.specs.Prelude.{ℕ, zero, suc, ◌-◌, List, [], ◌∷◌, Bool, true, false, not, if◌then◌else◌, Option, None, Some}
 use Rattle.std.specs.Option.{option_map}
+use Rattle.xt_spec.specs.Text.{is_void}
 use Rattle.xt_spec.specs.Tree.{LeafKind, Items, nil, element, leaf, text_item, reference_item, comment_item, pi_item, gap}
 use Rattle.bk_spec.specs.Node.{Origin, Nodes, no_nodes, element_node, text_node, comment_node, pi_node}
 
--- whether a leaf gives a node of its own
-abbrev pub gives_node : LeafKind → Bool
-gives_node text_item = true
-gives_node comment_item = true
-gives_node pi_item = true
-gives_node reference_item = false
-gives_node gap = false
+-- whether a leaf gives a node of its own; a text with an empty value gives none
+abbrev pub gives_node : LeafKind → List ℕ → Bool
+gives_node text_item text = not (is_void text)
+gives_node comment_item text = true
+gives_node pi_item text = true
+gives_node reference_item text = false
+gives_node gap text = false
 
 -- the index of the child of this number, from that of the next number among the items behind the first child
 abbrev pub child_index : ℕ → Option ℕ → Option ℕ
@@ -26,7 +28,7 @@ child_index (suc (suc number)) others = option_map suc others
 -- the index of the item that gives the node of this number; items that give none are not counted
 abbrev pub index_of : Items → ℕ → Option ℕ
 index_of nil number = None
-index_of (leaf kind text rest) number = if gives_node kind then child_index number (index_of rest (number - 1)) else option_map suc (index_of rest number)
+index_of (leaf kind text rest) number = if gives_node kind text then child_index number (index_of rest (number - 1)) else option_map suc (index_of rest number)
 index_of (element open_tag kids close rest) number = child_index number (index_of rest (number - 1))
 
 -- what the item of this index holds

@@ -1,10 +1,14 @@
--- Text items: what spells one. XML 1.0 (Fifth Edition), sections 2.4, 2.7, 4.1 and 4.6. A text item is as written.
+-- Text items: what spells one, and its value. XML 1.0 (Fifth Edition), sections 2.4, 2.7, 2.11, 4.1 and 4.6. A text item is
+-- as written, of a file; its value is UTF-8 too.
 --
 --   TextPart      a token of a text item: character data, a reference with the character that it stands for, or a CDATA
 --                 section with its characters
 --   IsTextItem    the text is spelled by such tokens
-use Rattle.std.specs.Prelude.{◌≡◌, ◌≢◌, ℕ, Bool, true, false, List, [], ◌∷◌, ◌++◌}
+--   HasTextValue  .. and this is its value
+--   is_void       the text is of empty CDATA sections alone
+use Rattle.std.specs.Prelude.{◌≡◌, ◌≢◌, ℕ, Bool, true, false, ◌&&◌, List, [], ◌∷◌, ◌++◌, codes, bytes_eq, encode_utf8}
 use Rattle.xt_spec.specs.Reference.{StandsFor}
+use Rattle.xt_spec.specs.LineEnds.{lines_read}
 use Rattle.xt_spec.specs.Markup.{IsSectionOf}
 use Rattle.xt_spec.specs.Token.{Spells, char_data}
 
@@ -23,6 +27,16 @@ abbrev pub parts_text : List TextPart → List ℕ
 parts_text [] = []
 parts_text (part ∷ parts) = part_text part ++ parts_text parts
 
+-- what a part counts in the value: characters count themselves, with line ends as read
+abbrev pub part_value : TextPart → List ℕ
+part_value (data_part text) = lines_read text
+part_value (reference_part text c) = encode_utf8 c
+part_value (section_part text content) = lines_read content
+
+abbrev pub parts_value : List TextPart → List ℕ
+parts_value [] = []
+parts_value (part ∷ parts) = part_value part ++ parts_value parts
+
 -- the first part is character data
 abbrev pub begins_with_data : List TextPart → Bool
 begins_with_data [] = false
@@ -40,3 +54,14 @@ AreTextParts (section_part text content ∷ parts) = IsSectionOf text content ×
 -- the text is one text item
 abbrev pub IsTextItem : List ℕ → Type 0
 IsTextItem text = (parts : List TextPart) × AreTextParts parts × (parts ≢ []) × (parts_text parts ≡ text)
+
+-- the text item's value joins the values of its parts
+abbrev pub HasTextValue : List ℕ → List ℕ → Type 0
+HasTextValue text value = (parts : List TextPart) × AreTextParts parts × (parts_text parts ≡ text) × (parts_value parts ≡ value)
+
+-- the text is of empty CDATA sections alone; such an item, and no other, has an empty value
+abbrev pub is_void : List ℕ → Bool
+is_void [] = true
+is_void (a ∷ b ∷ c ∷ d ∷ e ∷ f ∷ g ∷ h ∷ i ∷ j ∷ k ∷ l ∷ rest) =
+    bytes_eq (a ∷ b ∷ c ∷ d ∷ e ∷ f ∷ g ∷ h ∷ i ∷ j ∷ k ∷ l ∷ []) (codes "<![CDATA[]]>") && is_void rest
+is_void _ = false
