@@ -9,7 +9,7 @@
 --   nodes_of       the nodes of a content, where so many stand before it in the document
 use Rattle.std.specs.Prelude.{◌+◌, suc, ℕ, Bool, true, false, not, ◌&&◌, nat_lt, List, [], ◌∷◌, codes, bytes_eq, if◌then◌else◌, Option, None, Some, unwrap_or, Result, Ok, Err}
 use Rattle.std.specs.List.{list_any}
-use Rattle.xt_spec.specs.Namespace.{NamedValue, Binding, prefix_of, declared_prefix, scope_of, Expanded, expanded_name}
+use Rattle.xt_spec.specs.Namespace.{NamedValue, Binding, prefix_of, is_declaration, scope_of, Expanded, expanded_name}
 use Rattle.xt_spec.specs.Content.{Content, nothing_given, element_content, text_content, comment_content, pi_content}
 use Rattle.bk_name.specs.Uri.{joined, without_fragment}
 use Rattle.bk_spec.specs.Node.{owned, written, Attr, Head, Nodes, no_nodes, element_node, text_node, comment_node, pi_node, node_count}
@@ -50,17 +50,12 @@ attr_of a name = record {
   how = written;
 }
 
-abbrev pub is_none : {A : Type 0} → Option A → Bool
-is_none None = true
-is_none (Some value) = false
-
 -- the attributes, in order; declarations are not among them
 abbrev pub attrs_of : List ℕ → List Binding → List NamedValue → Result (List Attr) Fault
 attrs_of file scope [] = Ok []
 attrs_of file scope (a ∷ others) =
-    if is_none (declared_prefix a.name)
-    then and_then (λ (name : Expanded). and_then (λ (attrs : List Attr). Ok (attr_of a name ∷ attrs)) (attrs_of file scope others)) (named file scope true a.name)
-    else attrs_of file scope others
+    if is_declaration a.name then attrs_of file scope others
+    else and_then (λ (name : Expanded). and_then (λ (attrs : List Attr). Ok (attr_of a name ∷ attrs)) (attrs_of file scope others)) (named file scope true a.name)
 
 abbrev pub has_name : Attr → Attr → Bool
 has_name a b = bytes_eq a.space b.space && bytes_eq a.local b.local

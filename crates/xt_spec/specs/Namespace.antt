@@ -2,7 +2,7 @@
 -- Here: a name with the prefix `xmlns` is never bound but in a declaration, and `xmlns:xmlns` declares what is not allowed.
 --
 --   Binding          a prefix and what it is bound to
---   declared_prefix  which prefix an attribute declares
+--   is_declaration   whether an attribute is a declaration; declared_prefix: of which prefix
 --   is_allowed       whether a declaration is allowed
 --   scope_of         the bindings in scope of an element
 --   Expanded         an expanded name
@@ -37,11 +37,14 @@ prefix_of qname = if list_any is_colon qname then Some (before_first is_colon qn
 abbrev pub local_of : List ℕ → List ℕ
 local_of qname = if list_any is_colon qname then after_first is_colon qname else qname
 
+-- an attribute of this name is a declaration
+abbrev pub is_declaration : List ℕ → Bool
+is_declaration name = bytes_eq name (codes "xmlns") || bytes_eq (unwrap_or (prefix_of name) []) (codes "xmlns")
+
 -- [1] NSAttName: the prefix that an attribute of this name declares, empty for `xmlns`; none where it is no declaration
 abbrev pub declared_prefix : List ℕ → Option (List ℕ)
 declared_prefix name =
-    if bytes_eq name (codes "xmlns") then Some []
-    else (if bytes_eq (unwrap_or (prefix_of name) []) (codes "xmlns") then Some (local_of name) else None)
+    if is_declaration name then (if bytes_eq name (codes "xmlns") then Some [] else Some (local_of name)) else None
 
 -- Reserved Prefixes and Namespace Names; No Prefix Undeclaring
 abbrev pub is_allowed : Binding → Bool

@@ -1,9 +1,19 @@
-//! The value of a text item: what its characters and references stand for. XML 1.0 (Fifth Edition), sections 2.11, 4.1 and
-//! 4.6. Whether a text is an item is not asked here (`xt_read`).
+//! What the spelled parts of a file stand for: the values of texts and of attributes, the text of a comment, the target and
+//! data of a processing instruction; and which names are meant: the namespaces in scope, and expanded names. XML 1.0 (Fifth
+//! Edition), sections 2.5, 2.6, 2.11, 3.3.3, 4.1 and 4.6; Namespaces in XML 1.0, sections 2, 3, 5 and 6. Whether a text is
+//! spelled right is not asked here (`xt_read`).
 #![tactic(auto)]
 
-#[cfg(test)]
-mod tests;
+mod attribute;
+mod expanded;
+mod markup;
+mod named;
+mod scope;
 mod text;
 
+pub use attribute::attribute_value;
+pub use expanded::{Expanded, NameFault, expand_name};
+pub use markup::{PiParts, comment_text, pi_parts};
+pub use named::NamedText;
+pub use scope::{Scope, ScopeFault, scope_of};
 pub use text::text_value;

@@ -1,0 +1,85 @@
+//! Expanded names. Namespaces in XML 1.0, sections 2.1, 5 and 6.2.
+ghost use Rattle.std.specs.Prelude.{◌≡◌, [], Some, None, unwrap_or, IfOk, IsErrOf};
+ghost use Rattle.xt_spec.specs.Namespace as spec;
+
+use crate::scope::Scope;
+use std::alloc::AllocError;
+use std::marker::Model;
+use xt_table::SharedText;
+
+/// An expanded name: the name of its namespace, empty where it has none, and its local name.
+#[derive(Drop)]
+pub struct Expanded<'a> {
+    /// None where it has no namespace.
+    space: Option<SharedText>,
+    local: &'a str,
+}
+
+impl<'a> Model for Expanded<'a> {
+    ghost use Rattle.std.specs.Prelude.{[], unwrap_or};
+    ghost use Rattle.xt_spec.specs.Namespace.{Expanded};
+
+    ghost Value = { Expanded };
+
+    ghost view = { λ e. record { space = unwrap_or e.space []; local = e.local.now } };
+}
+
+impl<'a> Expanded<'a> {
+    /// The name of the namespace, empty where it has none.
+    pub fn space(&self) -> &str
+        ensures value { result.now ≡ self.now.space }
+    {
+        match &self.space {
+            Some(space) => space.as_str(),
+            None => "",
+        }
+    }
+
+    /// The local name.
+    pub fn local(&self) -> &'a str
+        ensures value { result.now ≡ self.now.local }
+    {
+        self.local
+    }
+
+    /// The name of the namespace, with one more owner; none where it has none. The one error is a full count of owners.
+    pub fn share_space(&self) -> Result<Option<SharedText>, AllocError>
+        ensures value { IfOk result (λ space. unwrap_or space [] ≡ self.now.space) }
+    {
+        match &self.space {
+            Some(space) => Ok(Some(space.share()?)),
+            None => Ok(None),
+        }
+    }
+}
+
+/// Why a name has no expanded name.
+#[derive(Clone, Copy, Debug, PartialEq, Eq, Drop)]
+pub enum NameFault {
+    /// Its prefix isn't bound.
+    Unbound,
+    /// Memory was wanting.
+    NoMemory,
+}
+
+impl From<AllocError> for NameFault {
+    ghost use Rattle.xt_value.specs.declared.expanded.NameFault.TheVariants.{NoMemory};
+
+    ghost from_gives = { λ _ fault. fault ≡ NoMemory };
+
+    fn from(_e: AllocError) -> Self {
+        NameFault::NoMemory
+    }
+}
+
+/// The expanded name of an attribute, or of an element: a default namespace is for elements alone.
+pub fn expand_name<'a>(
+    scope: &Scope,
+    qname: &'a str,
+    attribute: bool,
+) -> Result<Expanded<'a>, NameFault>
+    ensures value { IfOk result (λ name. spec.expanded_name scope.now attribute qname.now ≡ Some name) }
+    ensures fault { IsErrOf result NameFault.Unbound → spec.expanded_name scope.now attribute qname.now ≡ None }
+{
+    Err(NameFault::NoMemory)
+}

@@ -1,0 +1,28 @@
+ghost use Rattle.std.specs.Prelude.{◌≡◌, List, ℕ, IfOk, string_bytes};
+ghost use Rattle.xt_spec.specs.LineEnds.{lines_read};
+ghost use Rattle.xt_spec.specs.Content.{IsCommentOf, IsPiOf};
+
+use std::alloc::{AllocError, Global};
+
+/// The text of a comment of a file, with its line ends as read: `<!--a-->` has `a`. Nothing is said of a text that is none.
+pub fn comment_text(alloc: Global, comment: &str) -> Result<String, AllocError>
+    ensures exact { IfOk result (λ value. (inner : List ℕ) → IsCommentOf comment.now inner → lines_read inner ≡ string_bytes value) }
+{
+    Err(AllocError)
+}
+
+/// The parts of a processing instruction of a file: `<?go on?>` has the target `go` and the data `on`.
+#[derive(Debug, Drop)]
+pub struct PiParts<'a> {
+    /// The target as written.
+    pub target: &'a str,
+    /// The data, with their line ends as read.
+    pub value: String,
+}
+
+/// The target and the data of a processing instruction of a file. Nothing is said of a text that is none.
+pub fn pi_parts<'a>(alloc: Global, pi: &'a str) -> Result<PiParts<'a>, AllocError>
+    ensures exact { IfOk result (λ parts. (target inner : List ℕ) → IsPiOf pi.now target inner → (target ≡ parts.target.now) × (lines_read inner ≡ string_bytes parts.value)) }
+{
+    Err(AllocError)
+}
