@@ -1,3 +1,5 @@
+ghost use Rattle.std.specs.Prelude.{◌≡◌};
+
 use bk_info::BookFault;
 use std::alloc::AllocError;
 
