@@ -1,3 +1,0 @@
-pub mod ValueParts
-pub mod TextValue
-pub mod Printing
