@@ -5,7 +5,5 @@
 
 mod tree;
 mod value;
-#[cfg(test)]
-mod tests;
 
 pub use tree::print;
