@@ -10,7 +10,7 @@ use std::alloc::Global;
 use std::marker::Brand;
 use std::sync::ledger::{Blank, Ledger};
 use std::test::Fail;
-use xt_lex::{Span, Steps};
+use xt_lex::{Span, Steps, text_of};
 use xt_tree::Src;
 
 /// The most bytes of a file here.
@@ -105,25 +105,28 @@ fn entity(alloc: Global, bytes: &[u8]) -> Result<String, Fail> {
     entity_over::<Brand>(alloc, bytes, blank)
 }
 
-fn content_over<L: Ledger>(alloc: Global, text: &str, blank: Blank) -> Option<bool>
+fn content_over<L: Ledger>(alloc: Global, bytes: &[u8], blank: Blank) -> Result<Option<bool>, Fail>
     requires name { blank.name ≡ L.name }
     requires parts { blank.parts ≡ L.parts }
     requires some { L.parts ≡ 1 }
 {
     let mut steps = Steps::<L>::new(blank);
-    if text.len() > MOST_BYTES {
-        return None;
+    if bytes.len() > MOST_BYTES {
+        return Ok(None);
     }
-    match read_document(alloc, text.as_bytes(), &mut steps) {
-        Ok(items) => Some(has_content(text, items.as_slice())),
-        Err(_) => None,
+    let Ok(items) = read_document(alloc, bytes, &mut steps) else {
+        return Ok(None);
+    };
+    match text_of(bytes) {
+        Ok(text) => Ok(Some(has_content(text, items.as_slice()))),
+        Err(_) => Ok(None),
     }
 }
 
-/// Whether the text gives content by itself; none where it is no document.
-fn content(alloc: Global, text: &str) -> Option<bool> {
+/// Whether the bytes give content by themselves; none where they are no document.
+fn content(alloc: Global, bytes: &[u8]) -> Result<Option<bool>, Fail> {
     let blank = Blank::new(1);
-    content_over::<Brand>(alloc, text, blank)
+    content_over::<Brand>(alloc, bytes, blank)
 }
 
 #[test]
@@ -437,10 +440,10 @@ fn documents_give_content_by_themselves(rt: HostRuntime) -> Result<(), Fail> {
             false,
         ),
     ] {
-        assert_eq!(rt; content(alloc, text), Some(gives), "at {text}");
+        assert_eq!(rt; content(alloc, text.as_bytes())?, Some(gives), "at {text}");
     }
     for text in ["<a n='&#0;'/>", "<a>&amp</a>", "x"] {
-        assert_eq!(rt; content(alloc, text), None, "at {text}");
+        assert_eq!(rt; content(alloc, text.as_bytes())?, None, "at {text}");
     }
     Ok(())
 }
