@@ -9,6 +9,8 @@ mod expanded;
 mod markup;
 mod named;
 mod scope;
+#[cfg(test)]
+mod tests;
 mod text;
 
 pub use attribute::attribute_value;
