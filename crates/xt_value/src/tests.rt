@@ -1,0 +1,7 @@
+use std::process::Abort;
+use std::test::Fail;
+
+#[test]
+fn nothing(rt: HostRuntime) -> Result<(), Fail> {
+    Ok(())
+}
