@@ -5,6 +5,9 @@
 
 mod document;
 mod fault;
+mod inclusion;
+mod opening;
 
 pub use document::document_nodes;
 pub use fault::OpenFault;
+pub use opening::{Opened, open_document};
