@@ -9,7 +9,7 @@ use Rattle.std.specs.List.{list_all, starts_with}
 use Rattle.std.proofs.lemmas.Bool.{and_parts, cases_Bool}
 use lib.Pointwise.{pointwise}
 use Rattle.xt_read.proofs.Theorems.{comment_begins, pi_begins, doctype_begins}
-use Rattle.xt_spec.specs.Paths.{item_in, replaced_in}
+use Rattle.xt_spec.specs.Paths.{item_in, item_at, replaced_in}
 
 -- a text item of this text, or none
 abbrev pub one_text : Option (List ℕ) → Items
@@ -234,6 +234,10 @@ document_text items index path text is (inl (rest, same, main)) = by index (subs
         gap_item [] there = absurd cc
         gap_item (next ∷ path) there = absurd cc
     by (suc i) there = declared_text rest i path text there main
+
+pub document_text_at : (items : Items) (path text : List ℕ) → item_at items path ≡ Some (leaf_item text_item text) → IsOrdered document items → IsTextItem text
+document_text_at items [] text is ordered = absurd cc
+document_text_at items (index ∷ path) text is ordered = document_text items index path text is ordered
 
 -- a text in its own place changes nothing
 pub same_replaced : (items : Items) (index : ℕ) (path text : List ℕ) → item_in items index path ≡ Some (leaf_item text_item text) → replaced_in items index path (leaf text_item text nil) ≡ items
