@@ -76,11 +76,15 @@ fn opened_nodes(
     if !has_content(text, items) {
         return Err(not_yet(file)?);
     }
-    let nodes = document_nodes(alloc, file, text, items)?;
-    if has_inclusion(nodes.as_slice()) {
-        return Err(not_yet(file)?);
+    match document_nodes(alloc, file, text, items) {
+        Ok(nodes) => {
+            if has_inclusion(nodes.as_slice()) {
+                return Err(not_yet(file)?);
+            }
+            Ok(nodes)
+        }
+        Err(fault) => Err(fault),
     }
-    Ok(nodes)
 }
 
 /// Opens the document of these bytes, or answers its first fault. A step is counted for each byte.
@@ -97,10 +101,10 @@ pub fn open_document<L: Ledger>(
     ensures count { steps.new ≡ steps.old + length bytes.now }
 {
     match read_document(alloc, bytes, steps) {
-        Ok(items) => {
-            let nodes = opened_nodes(alloc, file, as_text(bytes), items.as_slice())?;
-            Ok(Opened { items, nodes })
-        }
+        Ok(items) => match opened_nodes(alloc, file, as_text(bytes), items.as_slice()) {
+            Ok(nodes) => Ok(Opened { items, nodes }),
+            Err(fault) => Err(fault),
+        },
         Err(unread) => Err(OpenFault::Book(fault_of(file, unread)?)),
     }
 }

@@ -23,5 +23,6 @@ mod unread;
 
 pub use content::has_content;
 pub use document::{read_document, read_entity};
+pub use front::FileRole;
 pub use laws::{longest_tokens, no_fault, one_entity, one_fault, one_reading};
 pub use unread::Unread;
