@@ -1,9 +1,12 @@
 -- The same bytes with the same items open, and are a file that a save may write.
-use Rattle.std.proofs.Common.{◌≡◌, ℕ, ◌≤◌, List, length, Option, Some, None, sym, subst, Vec}
+use Rattle.std.proofs.Common.{◌≡◌, ℕ, ◌≤◌, List, length, Option, Some, None, Ok, ◌∙◌, sym, subst, Vec}
 use Rattle.std.specs.Prelude.{IfSome}
 use Rattle.std.specs.Global.{Global}
 use Rattle.xt_spec.specs.Tree.{Items}
-use Rattle.bk_spec.specs.Opening.{IsOpen}
+use Rattle.xt_spec.specs.Content.{Content, HasContent}
+use Rattle.bk_spec.specs.Node.{Nodes}
+use Rattle.bk_spec.specs.DocumentNodes.{nodes_of}
+use Rattle.bk_spec.specs.Opening.{top_context, IsOpen}
 use Rattle.bk_info.specs.declared.node.Node.{Node}
 use Rattle.bk_info.specs.Nodes.{nodes_in}
 use Rattle.xt_tree.specs.declared.source.Src.{Src}
@@ -36,3 +39,15 @@ is_edited_root root a b items saved bytes opens place size = record {
   place = subst (λ (l : List ℕ). AreInPlace l 0 (marks_of items) (length l)) (sym bytes) place;
   size = size;
 }
+
+-- the nodes of a document that opens are those that its content gives
+pub opens_with : (file text bytes : List ℕ) (items : List Src) (nodes : Nodes) → text ≡ bytes → Opens file bytes (items_in bytes items)
+    → ((content : Content) → HasContent (items_in text items) content → nodes_of file (top_context file) 0 content ≡ Ok nodes) → IsOpen file bytes (items_in bytes items) nodes
+opens_with file text bytes items nodes same (known, opens) are =
+    let (content, has, gives) = opens.gives in
+    let both = sym gives ∙ are content (subst (λ (l : List ℕ). HasContent (items_in l items) content) (sym same) has) in
+    let one : known ≡ nodes = cc in
+    subst (λ (ns : Nodes). IsOpen file bytes (items_in bytes items) ns) one opens
+
+pub same_open : (q r a b : List ℕ) (items : Items) (nodes : Nodes) → q ≡ r → a ≡ b → IsOpen r b items nodes → IsOpen q a items nodes
+same_open q r a b items nodes root bytes is = subst (λ (k : List ℕ). IsOpen k a items nodes) (sym root) (subst (λ (l : List ℕ). IsOpen r l items nodes) (sym bytes) is)

@@ -1,4 +1,10 @@
 pub mod KeptLemmas
+pub mod NarrowLemmas
+pub mod VoidLemmas
+pub mod PathLemmas
+pub mod RangeLemmas
+pub mod LeadLemmas
+pub mod EditLemmas
 pub mod BurstLemmas
 pub mod Examples
 pub mod StartLemmas

@@ -9,9 +9,11 @@ ghost use Rattle.ed_session.specs.Kept.{Opens};
 
 use bk_info::Node;
 use bk_name::Name;
+use ent_doc::document_nodes;
 use sqlite_items::Items;
-use std::alloc::AllocError;
+use std::alloc::{AllocError, Global};
 use std::marker::Model;
+use xt_lex::text_of;
 use xt_tree::Src;
 
 /// The root of a book that is open: its bytes as edited, the items that they read as, and its bytes as last saved.
@@ -36,6 +38,26 @@ impl Model for Session {
     ghost view = { λ s. kept s.root s.bytes.items s.saved };
 
     ghost invariant = { λ s. IsOpenRoot s.root s.bytes.items s.items s.nodes s.saved };
+}
+
+/// The nodes of a document that opens: it has no fault, so memory is wanting where they aren't made.
+fn nodes_again(
+    alloc: Global,
+    root: &Name,
+    bytes: &[u8],
+    items: &[Src],
+) -> Result<Items<Node>, AllocError>
+    requires opens { Opens root.now bytes.now (items_in bytes.now items.now) }
+    requires place { AreInPlace bytes.now 0 (marks_of items.now) (length bytes.now) }
+    ensures value { IfOk result (λ nodes. IsOpen root.now bytes.now (items_in bytes.now items.now) (nodes_in nodes)) }
+{
+    let Ok(text) = text_of(bytes) else {
+        return Err(AllocError);
+    };
+    match document_nodes(alloc, root, text, items) {
+        Ok(nodes) => Ok(nodes),
+        Err(_) => Err(AllocError),
+    }
 }
 
 impl Session {
@@ -65,6 +87,17 @@ impl Session {
     pub fn into_tree(self) -> Result<Items<Node>, AllocError>
         ensures value { IfOk result (λ nodes. (items : SyntaxItems) × IsOpen self.root self.bytes items (nodes_in nodes)) }
     {
-        Err(AllocError)
+        let alloc = *self.bytes.allocator();
+        let Session {
+            root,
+            bytes,
+            items,
+            nodes,
+            saved: _,
+        } = self;
+        match nodes {
+            Some(nodes) => Ok(nodes),
+            None => nodes_again(alloc, &root, bytes.as_slice(), items.as_slice()),
+        }
     }
 }

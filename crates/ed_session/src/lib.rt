@@ -8,6 +8,8 @@ mod burst;
 mod edit;
 mod kept;
 mod opening;
+mod place;
+mod range;
 mod refusal;
 
 pub use kept::Session;
