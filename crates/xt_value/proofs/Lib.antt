@@ -1,2 +1,4 @@
 pub mod NameParts
 pub mod ScopeLemmas
+pub mod Searches
+pub mod Sections

@@ -5,6 +5,7 @@
 #![tactic(auto)]
 
 mod attribute;
+mod cuts;
 mod expanded;
 mod markup;
 mod named;
