@@ -5,7 +5,7 @@
 --   HasRawValue     the value of the raw text of an attribute, without the quotes
 --   Adds            the value of a text was added up to that of its rest
 --   PutsReference   the reference at the front was read, or what another part at the front counts
-use Rattle.std.specs.Prelude.{◌≡◌, ◌⊎◌, ℕ, Bool, true, not, ◌||◌, ◌==◌, List, [], ◌∷◌, ◌++◌, map, encode_utf8}
+use Rattle.std.specs.Prelude.{◌≡◌, ◌⊎◌, ℕ, Bool, true, not, ◌||◌, ◌==◌, List, [], ◌∷◌, ◌++◌, map, encode_utf8, if◌then◌else◌}
 use Rattle.std.specs.List.{list_all}
 use Rattle.xt_spec.specs.Reference.{StandsFor}
 use Rattle.xt_spec.specs.LineEnds.{lines_read}
@@ -28,6 +28,10 @@ is_mark b = b == 0x26 || b == 0x3C
 -- white space but the space
 abbrev pub is_break : ℕ → Bool
 is_break b = b == 0x9 || b == 0xA || b == 0xD
+
+-- what is read for such white space
+abbrev pub broken : ℕ → ℕ
+broken b = if b == 0xD then 0xA else b
 
 -- no byte of the text passes
 abbrev pub lacks_all : (ℕ → Bool) → List ℕ → Bool

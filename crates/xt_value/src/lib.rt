@@ -7,8 +7,10 @@
 mod attribute;
 mod cuts;
 mod expanded;
+mod lines;
 mod markup;
 mod named;
+mod reference;
 mod scope;
 #[cfg(test)]
 mod tests;
