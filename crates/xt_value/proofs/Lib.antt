@@ -5,3 +5,5 @@ pub mod References
 pub mod ScopeLemmas
 pub mod Searches
 pub mod Sections
+pub mod TokenLemmas
+pub mod ValueLemmas

@@ -1,12 +1,12 @@
 -- The parts of a text item: which one stands at the front, and what of the value was added.
-use Rattle.std.proofs.Common.{not, ◌||◌, ◌==◌, ◌≡◌, ◌≢◌, ◌∙◌, ℕ, suc, ◌<◌, ◌≤◌, ◌+◌, ◌-◌, List, [], ◌∷◌, ◌++◌, length, get_or, refl, sym, ap, subst, arith, true, false, Bool, codes, inl, inr, append_assoc, encode_utf8, encode_utf8_all}
+use Rattle.std.proofs.Common.{not, ◌==◌, ◌≡◌, ◌≢◌, ◌∙◌, ℕ, ◌<◌, ◌≤◌, List, [], ◌∷◌, ◌++◌, length, get_or, refl, sym, ap, subst, arith, true, false, Bool, codes, inl, inr, append_assoc, encode_utf8, encode_utf8_all}
 use Rattle.std.proofs.lemmas.Bool.{and_parts, cases_lt}
 use Rattle.std.proofs.lemmas.Bool.Decides.{nat_tests}
 use Rattle.std.proofs.lemmas.List.{append-nil}
 use Rattle.std.proofs.lemmas.List.Sums.{list_all-from_AllPass}
 use Rattle.std.proofs.lemmas.List.Elements.{All-from_get_or}
 use Rattle.std.proofs.lemmas.Str.{length-le-encodes, NoCharPasses-byte}
-use Rattle.std.specs.List.{list_all, AllByRecursion}
+use Rattle.std.specs.List.{AllByRecursion}
 use Rattle.std.specs.Str.{NonePass, NoCharPasses}
 use Rattle.xt_spec.specs.Reference.{StandsFor}
 use Rattle.xt_spec.specs.Markup.{IsSectionOf}

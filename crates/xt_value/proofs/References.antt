@@ -1,5 +1,5 @@
 -- A reference at the front of a text ends at the first `;`.
-use Rattle.std.proofs.Common.{◌≡◌, ◌≢◌, ◌∙◌, ℕ, List, [], ◌∷◌, ◌++◌, not, true, false, Bool, codes, inl, inr, refl, sym, ap, subst, arith, append_assoc, encode_utf8}
+use Rattle.std.proofs.Common.{◌≡◌, ◌∙◌, ℕ, List, [], ◌∷◌, ◌++◌, not, true, Bool, codes, inl, inr, refl, sym, ap, subst, arith, append_assoc, encode_utf8}
 use Rattle.std.proofs.lemmas.Bool.{and_parts, and_from}
 use Rattle.std.proofs.lemmas.Bool.Decides.{nat_tests}
 use Rattle.std.specs.List.{list_all}

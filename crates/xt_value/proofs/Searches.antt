@@ -10,6 +10,7 @@ use Rattle.std.proofs.lemmas.Str.{IsCharBoundary-after_ascii}
 use Rattle.std.specs.Str.{IsUtf8, IsCharBoundary}
 use Rattle.xt_lex.proofs.Runs.{boundary_at_stop}
 use Rattle.memchr.specs.Find.{is_byte, IsFirstByte}
+use Rattle.xt_value.specs.Tokens.{is_blank}
 use Rattle.xt_value.specs.Parts.{lacks_all, is_semicolon, is_cr, is_break, is_ampersand, is_mark, Stops, IsCut}
 
 fails : (b : Bool) → ¬ (b ≡ true) → b ≡ false
@@ -33,6 +34,9 @@ cr_ascii b is = grind (arith, nat_tests)
 
 pub break_ascii : (b : ℕ) → is_break b ≡ true → b < 128
 break_ascii b is = grind (arith, nat_tests)
+
+pub blank_ascii : (b : ℕ) → is_blank b ≡ true → b < 128
+blank_ascii b is = grind (arith, nat_tests)
 
 pub ampersand_ascii : (b : ℕ) → is_ampersand b ≡ true → b < 128
 ampersand_ascii b is = grind (arith, nat_tests)

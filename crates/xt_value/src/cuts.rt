@@ -1,9 +1,11 @@
 //! Where a part of a text ends. What ends one is ASCII.
-ghost use Rattle.std.specs.Prelude.{◌≡◌, ◌≢◌, ◌<◌, ◌≤◌, List, ℕ, [], ◌∷◌, ◌++◌, length, true, codes, option_map, IfSome, MatchOption};
+ghost use Rattle.std.specs.Prelude.{◌≡◌, ◌≢◌, ◌<◌, ◌≤◌, List, ℕ, [], ◌∷◌, ◌++◌, length, true, codes, option_map, Some, IfSome, MatchOption};
 ghost use Rattle.std.specs.List.{position_or_len};
 ghost use Rattle.memchr.specs.Find.{is_byte, is_byte2, is_byte3};
 ghost use Rattle.xt_lex.specs.Scan.{cut};
 ghost use Rattle.xt_spec.specs.Markup.{IsSectionOf};
+ghost use Rattle.std.specs.Option.{option_copied};
+ghost use Rattle.xt_value.specs.Tokens.{is_blank};
 ghost use Rattle.xt_value.specs.Parts.{is_ampersand, is_break, is_cr, is_mark, is_semicolon, lacks_all, IsCut};
 
 use memchr::{memchr, memchr2, memchr3, memmem};
@@ -43,6 +45,13 @@ pub(crate) fn split_break(text: &str) -> (&str, &str)
     text.split_at(place_of_three(b'\t', b'\n', b'\r', text))
 }
 
+/// A text cut before its first space.
+pub(crate) fn split_blank(text: &str) -> (&str, &str)
+    ensures value { IsCut is_blank text.now result.0.now result.1.now }
+{
+    text.split_at(place_of(b' ', text))
+}
+
 /// A text cut before its first `&`.
 pub(crate) fn split_characters(text: &str) -> (&str, &str)
     ensures value { IsCut is_ampersand text.now result.0.now result.1.now }
@@ -66,6 +75,26 @@ pub(crate) fn split_reference(text: &str) -> (&str, &str)
         Some(at) => text.split_at(at + 1),
         None => (text, ""),
     }
+}
+
+/// What follows the ASCII character at the front; nothing where none stands there.
+pub(crate) fn behind_ascii(text: &str) -> &str
+    ensures value { (b : ℕ) (behind : List ℕ) → text.now ≡ b ∷ behind → b < 128 → result.now ≡ behind }
+    ensures none { text.now ≡ [] → result.now ≡ [] }
+    ensures shorter { text.now ≢ [] → length result.now < length text.now }
+{
+    match text.as_bytes() {
+        [first, ..] if first.is_ascii() => &text[1..],
+        _ => "",
+    }
+}
+
+/// What stands between the two, where they stand at the ends.
+pub(crate) fn between<'a>(text: &'a str, front: &str, end: &str) -> Option<&'a str>
+    ensures value { (inner : List ℕ) → text.now ≡ front.now ++ (inner ++ end.now) → option_copied result ≡ Some inner }
+    ensures only { IfSome result (λ inner. text.now ≡ front.now ++ (inner.now ++ end.now)) }
+{
+    text.strip_prefix(front)?.strip_suffix(end)
 }
 
 /// What stands before the first `]]>`, and what follows it.

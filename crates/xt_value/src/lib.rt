@@ -15,6 +15,7 @@ mod scope;
 #[cfg(test)]
 mod tests;
 mod text;
+mod tokens;
 
 pub use attribute::attribute_value;
 pub use expanded::{Expanded, NameFault, expand_name, is_declaration, prefix_of};

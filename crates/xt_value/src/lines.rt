@@ -4,19 +4,8 @@ ghost use Rattle.xt_spec.specs.LineEnds.{lines_read};
 ghost use Rattle.xt_spec.specs.Value.{spaced};
 ghost use Rattle.xt_value.specs.Parts.{broken, is_break};
 
-use crate::cuts::{split_break, split_line};
+use crate::cuts::{behind_ascii, split_break, split_line};
 use std::alloc::{AllocError, Global};
-
-/// What follows the ASCII character at the front; nothing where none stands there.
-fn behind_ascii(text: &str) -> &str
-    ensures value { (b : ℕ) (behind : List ℕ) → text.now ≡ b ∷ behind → b < 128 → result.now ≡ behind }
-    ensures shorter { text.now ≢ [] → length result.now < length text.now }
-{
-    match text.as_bytes() {
-        [first, ..] if first.is_ascii() => &text[1..],
-        _ => "",
-    }
-}
 
 /// What follows the CR, LF or tab at the front: CR LF goes as one.
 fn behind_break(text: &str) -> &str

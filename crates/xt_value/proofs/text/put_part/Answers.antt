@@ -1,4 +1,4 @@
-use Rattle.std.proofs.Common.{◌≡◌, ◌≢◌, get_or, string_bytes, refl, arith}
+use Rattle.std.proofs.Common.{◌≢◌, get_or, string_bytes, refl, arith}
 use Rattle.std.proofs.lemmas.Result.{IfOk-weaker}
 use Rattle.xt_value.proofs.PartLemmas.{reference_adds, section_adds, data_adds, begins_with, no_mark}
 use Rattle.xt_value.proofs.text.put_part.Goals as goal
