@@ -1,4 +1,5 @@
 pub mod LineLemmas
+pub mod MarkupLemmas
 pub mod NameParts
 pub mod PartLemmas
 pub mod References

@@ -1,8 +1,9 @@
 //! Where a part of a text ends. What ends one is ASCII.
 ghost use Rattle.std.specs.Prelude.{◌≡◌, ◌≢◌, ◌<◌, ◌≤◌, List, ℕ, [], ◌∷◌, ◌++◌, length, true, codes, option_map, Some, IfSome, MatchOption};
-ghost use Rattle.std.specs.List.{position_or_len};
+ghost use Rattle.std.specs.List.{position_or_len, prefix_len};
 ghost use Rattle.memchr.specs.Find.{is_byte, is_byte2, is_byte3};
-ghost use Rattle.xt_lex.specs.Scan.{cut};
+ghost use Rattle.xt_lex.specs.Scan.{behind, cut};
+ghost use Rattle.xt_spec.specs.Char.{is_space};
 ghost use Rattle.xt_spec.specs.Markup.{IsSectionOf};
 ghost use Rattle.std.specs.Option.{option_copied};
 ghost use Rattle.xt_value.specs.Tokens.{is_blank};
@@ -50,6 +51,39 @@ pub(crate) fn split_blank(text: &str) -> (&str, &str)
     ensures value { IsCut is_blank text.now result.0.now result.1.now }
 {
     text.split_at(place_of(b' ', text))
+}
+
+fn is_space(b: u8) -> bool
+    ensures value { result ≡ is_space b }
+{
+    matches!(b, b' ' | b'\t' | b'\r' | b'\n')
+}
+
+/// The place of the first white space, or the length.
+fn place_of_space(bytes: &[u8]) -> usize
+    ensures value { result ≡ position_or_len is_space bytes.now }
+{
+    bytes.iter().take_while(|b| !is_space(**b)).count()
+}
+
+/// A text cut before its first white space.
+pub(crate) fn split_space(text: &str) -> (&str, &str)
+    ensures value { IsCut is_space text.now result.0.now result.1.now }
+{
+    text.split_at(place_of_space(text.as_bytes()))
+}
+
+fn space_len(bytes: &[u8]) -> usize
+    ensures value { result ≡ prefix_len is_space bytes.now }
+{
+    bytes.iter().take_while(|b| is_space(**b)).count()
+}
+
+/// What follows white space in front, of which there may be none.
+pub(crate) fn behind_space(text: &str) -> &str
+    ensures value { result.now ≡ behind is_space text.now }
+{
+    &text[space_len(text.as_bytes())..]
 }
 
 /// A text cut before its first `&`.
