@@ -1,2 +1,10 @@
+pub mod LineLemmas
+pub mod MarkupLemmas
 pub mod NameParts
+pub mod PartLemmas
+pub mod References
 pub mod ScopeLemmas
+pub mod Searches
+pub mod Sections
+pub mod TokenLemmas
+pub mod ValueLemmas

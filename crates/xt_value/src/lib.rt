@@ -5,13 +5,17 @@
 #![tactic(auto)]
 
 mod attribute;
+mod cuts;
 mod expanded;
+mod lines;
 mod markup;
 mod named;
+mod reference;
 mod scope;
 #[cfg(test)]
 mod tests;
 mod text;
+mod tokens;
 
 pub use attribute::attribute_value;
 pub use expanded::{Expanded, NameFault, expand_name, is_declaration, prefix_of};
