@@ -1,3 +1,4 @@
+pub mod ContentLemmas
 pub mod LineLemmas
 pub mod MarkupLemmas
 pub mod NameParts
@@ -6,5 +7,8 @@ pub mod References
 pub mod ScopeLemmas
 pub mod Searches
 pub mod Sections
+pub mod Theorems
 pub mod TokenLemmas
+pub mod UniqueLemmas
 pub mod ValueLemmas
+pub mod VoidLemmas

@@ -34,7 +34,7 @@ space_stops : (space inner : List ℕ) → IsBlank space → (space ≡ [] → i
 space_stops [] inner blank apart = inl (apart refl)
 space_stops (b ∷ space) inner blank apart = inr (b, space ++ inner, refl, (and_parts (is_space b) (list_all is_space space) blank).0)
 
-data_stay : (inner : List ℕ) → begins_blank inner ≡ false → behind is_space inner ≡ inner
+pub data_stay : (inner : List ℕ) → begins_blank inner ≡ false → behind is_space inner ≡ inner
 data_stay [] begins = refl
 data_stay (b ∷ inner) begins = let lacks : is_space b ≡ false = begins in rw lacks refl
 
@@ -43,3 +43,11 @@ pub pi_cut : (pi target inner body front rest : List ℕ) → (is : IsPiOf pi ta
 pi_cut pi target inner body front rest is spelled cut =
     let same = cut_unique is_space target front (is.space ++ inner) rest (target_lacks target is.is_target.0) cut.lacks (space_stops is.space inner is.is_space is.apart) cut.stops (sym (append_assoc target is.space inner) ∙ sym spelled ∙ sym cut.joined) in
     (same.0, sym (data_stay inner is.begins) ∙ sym (behind_append is_space is.space inner is.is_space) ∙ ap (behind is_space) same.1)
+
+-- .. and so cut, the body joins again
+pub pi_is_cut : (pi target inner : List ℕ) → (is : IsPiOf pi target inner) → IsCut is_space (target ++ is.space ++ inner) target (is.space ++ inner)
+pi_is_cut pi target inner is = record {
+  joined = sym (append_assoc target is.space inner);
+  lacks = target_lacks target is.is_target.0;
+  stops = space_stops is.space inner is.is_space is.apart;
+}

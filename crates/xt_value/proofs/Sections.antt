@@ -18,7 +18,7 @@ regroup opening inner close behind = simp append_assoc
 pub section_cut : (text section inner behind body : List ℕ) → IsSectionOf section inner → text ≡ section ++ behind → text ≡ codes "<![CDATA[" ++ body → cut (codes "]]>") body ≡ Some (inner, behind)
 section_cut text section inner behind body (chars, lacks, spelled) is begins =
     let whole : codes "<![CDATA[" ++ body ≡ codes "<![CDATA[" ++ (inner ++ (codes "]]>" ++ behind)) =
-        sym begins ∙ is ∙ ap (λ (l : List ℕ). l ++ behind) spelled ∙ regroup (codes "<![CDATA[") inner (codes "]]>") behind in
+    sym begins ∙ is ∙ ap (λ (l : List ℕ). l ++ behind) spelled ∙ regroup (codes "<![CDATA[") inner (codes "]]>") behind in
     let rest : body ≡ inner ++ (codes "]]>" ++ behind) = append_cancel_left (codes "<![CDATA[") body _ whole in
     ap (cut (codes "]]>")) rest ∙ cut_fresh_again (codes "]]>") inner behind (omega arith) (fresh_from_lacks (codes "]]>") inner behind stays lacks)
 

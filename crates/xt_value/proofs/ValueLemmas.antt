@@ -46,7 +46,7 @@ from_not : (b : Bool) → not b ≡ true → b ≡ false
 from_not true is = let bad : false ≡ true = is in absurd (cc)
 from_not false is = refl
 
-first_lacks : (b : ℕ) (front : List ℕ) → lacks_all is_ampersand (b ∷ front) ≡ true → is_ampersand b ≡ false
+pub first_lacks : (b : ℕ) (front : List ℕ) → lacks_all is_ampersand (b ∷ front) ≡ true → is_ampersand b ≡ false
 first_lacks b front lacks = from_not (is_ampersand b) (and_parts _ _ lacks).0
 
 pub value_parts_stop : (q : ℕ) (parts : List ValuePart) → AreValueParts q parts → begins_with_characters parts ≡ false → Stops is_ampersand (value_parts_text parts)
