@@ -6,8 +6,10 @@
 mod document;
 mod fault;
 mod inclusion;
+mod laws;
 mod opening;
 
 pub use document::document_nodes;
 pub use fault::OpenFault;
+pub use laws::{a_document_opens_once, an_open_document_has_no_fault, one_document_fault};
 pub use opening::{Opened, open_document};

@@ -1,4 +1,4 @@
-use Rattle.ent_doc.proofs.DocumentLemmas.{opens_once}
+use Rattle.ent_doc.proofs.OnceLemmas.{opens_once}
 use Rattle.ent_doc.proofs.laws.a_document_opens_once.Goals as goal
 
 pub returns : goal.returns

@@ -1,4 +1,4 @@
-use Rattle.ent_doc.proofs.DocumentLemmas.{document_fault_once}
+use Rattle.ent_doc.proofs.OnceLemmas.{document_fault_once}
 use Rattle.ent_doc.proofs.laws.one_document_fault.Goals as goal
 
 pub returns : goal.returns
