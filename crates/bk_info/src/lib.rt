@@ -1,0 +1,19 @@
+//! The nodes of a book, as the product keeps them: elements with their attributes, texts, comments and processing
+//! instructions, with the file that each came from, its base URI and its language (XML Information Set, sections 2.2 to 2.7);
+//! and why a book does not open. What many nodes have in common is kept once and shared: names, contexts and origins.
+//! Contracts see plain values (`bk_spec::Node`). No file is read here (`ent_doc`).
+#![tactic(auto)]
+
+mod attr;
+mod context;
+mod fault;
+mod name;
+mod node;
+mod origin;
+
+pub use attr::{Attr, How};
+pub use context::Context;
+pub use fault::BookFault;
+pub use name::NodeName;
+pub use node::Node;
+pub use origin::Origin;
