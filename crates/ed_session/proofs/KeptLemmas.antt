@@ -1,18 +1,38 @@
--- The same bytes with the same items are a plain document, and a file that a save may write.
-use Rattle.std.proofs.Common.{◌≡◌, ℕ, ◌≤◌, List, length, Option, sym, subst, Vec}
+-- The same bytes with the same items open, and are a file that a save may write.
+use Rattle.std.proofs.Common.{◌≡◌, ℕ, ◌≤◌, List, length, Option, Some, None, sym, subst, Vec}
+use Rattle.std.specs.Prelude.{IfSome}
 use Rattle.std.specs.Global.{Global}
-use Rattle.xt_spec.specs.Plain.{IsPlainDocument}
+use Rattle.xt_spec.specs.Tree.{Items}
+use Rattle.bk_spec.specs.Opening.{IsOpen}
+use Rattle.bk_info.specs.declared.node.Node.{Node}
+use Rattle.bk_info.specs.Nodes.{nodes_in}
 use Rattle.xt_tree.specs.declared.source.Src.{Src}
 use Rattle.xt_tree.specs.Meaning.{items_in}
 use Rattle.xt_tree.specs.Places.{marks_of, AreInPlace}
-use Rattle.ed_session.specs.Kept.{saved_of, IsOpen}
+use Rattle.ed_session.specs.Kept.{saved_of, Opens, IsOpenRoot}
 
-pub same_plain : (a b : List ℕ) (i j : List Src) → a ≡ b → i ≡ j → IsPlainDocument b (items_in b j) → IsPlainDocument a (items_in a i)
-same_plain a b i j bytes items is = subst (λ (l : List ℕ). IsPlainDocument l (items_in l i)) (sym bytes) (subst (λ (k : List Src). IsPlainDocument b (items_in b k)) (sym items) is)
+pub same_opens : (q r a b : List ℕ) (i j : List Src) → q ≡ r → a ≡ b → i ≡ j → Opens r b (items_in b j) → Opens q a (items_in a i)
+same_opens q r a b i j root bytes items is =
+    subst (λ (k : List ℕ). Opens k a (items_in a i)) (sym root) (subst (λ (l : List ℕ). Opens r l (items_in l i)) (sym bytes) (subst (λ (k : List Src). Opens r b (items_in b k)) (sym items) is))
 
-pub is_open : (a b : List ℕ) (items : List Src) (saved : Option (Vec ℕ Global)) → a ≡ b → IsPlainDocument b (items_in b items) → AreInPlace b 0 (marks_of items) (length b) → length (saved_of saved a) ≤ 4194304 → IsOpen a items saved
-is_open a b items saved bytes plain place size = record {
-  plain = subst (λ (l : List ℕ). IsPlainDocument l (items_in l items)) (sym bytes) plain;
+-- a root whose nodes were just made
+pub is_open_root : (root a b : List ℕ) (items : List Src) (nodes : List Node) (saved : Option (Vec ℕ Global)) → a ≡ b → IsOpen root b (items_in b items) (nodes_in nodes) → AreInPlace b 0 (marks_of items) (length b)
+    → length (saved_of saved a) ≤ 4194304 → IsOpenRoot root a items (Some nodes) saved
+is_open_root root a b items nodes saved bytes opens place size =
+    let same : IsOpen root a (items_in a items) (nodes_in nodes) = subst (λ (l : List ℕ). IsOpen root l (items_in l items) (nodes_in nodes)) (sym bytes) opens in
+    record {
+      opens = (nodes_in nodes, same);
+      nodes_are = same;
+      place = subst (λ (l : List ℕ). AreInPlace l 0 (marks_of items) (length l)) (sym bytes) place;
+      size = size;
+    }
+
+-- .. and one whose nodes aren't kept
+pub is_edited_root : (root a b : List ℕ) (items : List Src) (saved : Option (Vec ℕ Global)) → a ≡ b → Opens root b (items_in b items) → AreInPlace b 0 (marks_of items) (length b) → length (saved_of saved a) ≤ 4194304
+    → IsOpenRoot root a items None saved
+is_edited_root root a b items saved bytes opens place size = record {
+  opens = subst (λ (l : List ℕ). Opens root l (items_in l items)) (sym bytes) opens;
+  nodes_are = tt;
   place = subst (λ (l : List ℕ). AreInPlace l 0 (marks_of items) (length l)) (sym bytes) place;
   size = size;
 }

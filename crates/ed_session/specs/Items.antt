@@ -12,7 +12,7 @@ use Rattle.ed_spec.specs.Place as place
 
 abbrev pub gives_node_item : Item → Bool
 gives_node_item (element_item open_tag kids close) = true
-gives_node_item (leaf_item kind text) = place.gives_node kind
+gives_node_item (leaf_item kind text) = place.gives_node kind text
 
 abbrev pub content : Item → Items
 content (element_item open_tag kids close) = kids

@@ -1,9 +1,10 @@
 -- How a session begins, and why it doesn't; of this project, over the recovery of `jr_burst`.
 --
---   start_of_recover, start_of_desk  the fault that one of a recovery, or of the desk, is
+--   start_of_recover, start_of_desk, start_of_open  the fault that one of a recovery, of the desk, or of a document, is
 --   IsOver                           the session is over a root of these bytes
 --   IsStarted                        the book was recovered, and the session is over its root
 --   IsRootFault                      why the root of a book does not open
+--   IsNoOpening, IsNoRoot            .. as the code answers, of bytes and of the file
 --   IsFaulty                         the book was recovered, and its root does not open
 --   FailsBy                          why there is no session
 --   size_of_got, file_steps          how many steps it takes to read a file: one a byte
@@ -15,6 +16,8 @@ use Rattle.xt_spec.specs.Tree.{Items}
 use Rattle.bk_spec.specs.Fault.{Fault, missing, too_large}
 use Rattle.bk_info.specs.declared.fault.BookFault.{BookFault}
 use Rattle.bk_info.specs.Nodes.{fault_in}
+use Rattle.ent_doc.specs.declared.fault.OpenFault.{OpenFault}
+use Rattle.ent_doc.specs.declared.fault.OpenFault.TheVariants as opening
 use Rattle.ent_doc.specs.Opening.{IsDocumentFault}
 use Rattle.bk_desk.specs.declared.desk_name.DeskName.TheVariants.{Book}
 use Rattle.bk_desk.specs.declared.desk.DeskErr.{DeskErr}
@@ -30,7 +33,7 @@ use Rattle.ed_session.specs.declared.opening.StartFault.{StartFault}
 use Rattle.ed_session.specs.declared.opening.StartFault.TheVariants as start
 use Rattle.ed_session.specs.Kept.{Kept, Opens}
 
--- the faults of a recovery and of the desk
+-- the faults of a recovery, of the desk and of a document
 abbrev pub start_of_recover : RecoverFault → StartFault
 start_of_recover recover.Desk = start.Desk
 start_of_recover recover.Journal = start.Journal
@@ -39,6 +42,10 @@ start_of_recover recover.NoMemory = start.NoMemory
 abbrev pub start_of_desk : DeskErr → StartFault
 start_of_desk desk.Failed = start.Desk
 start_of_desk desk.NoMemory = start.NoMemory
+
+abbrev pub start_of_open : OpenFault → StartFault
+start_of_open (opening.Book fault) = start.Book fault
+start_of_open opening.NoMemory = start.NoMemory
 
 -- the session is over a root of these bytes, with nothing edited
 pub record IsOver (root : List ℕ) (file : Option (List ℕ)) (session : Kept) : Type 0 where
@@ -53,6 +60,20 @@ pub data IsRootFault (root : List ℕ) (file : Option (List ℕ)) (fault : Fault
   absent : file ≡ None → fault ≡ missing root → IsRootFault root file fault
   longer : (bytes : List ℕ) → file ≡ Some bytes → 4194304 < length bytes → fault ≡ too_large root → IsRootFault root file fault
   faulty : (bytes : List ℕ) → file ≡ Some bytes → length bytes ≤ 4194304 → IsDocumentFault root bytes fault → IsRootFault root file fault
+
+-- there is no session over a root of these bytes
+abbrev pub IsNoOpening : List ℕ → List ℕ → StartFault → Type 0
+IsNoOpening root bytes (start.Book fault) = IsDocumentFault root bytes (fault_in fault)
+IsNoOpening root bytes start.Desk = ⊥
+IsNoOpening root bytes start.Journal = ⊥
+IsNoOpening root bytes start.NoMemory = Unit {0}
+
+-- .. nor over this file
+abbrev pub IsNoRoot : List ℕ → Option (List ℕ) → StartFault → Type 0
+IsNoRoot root file (start.Book fault) = IsRootFault root file (fault_in fault)
+IsNoRoot root file start.Desk = ⊥
+IsNoRoot root file start.Journal = ⊥
+IsNoRoot root file start.NoMemory = Unit {0}
 
 -- the session is over the root of the recovered book
 pub record IsStarted (root : List ℕ) (old new : DiskState) (session : Kept) : Type 0 where

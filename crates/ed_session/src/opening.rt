@@ -1,31 +1,31 @@
-//! How a session begins: the book is recovered, its root is read, and is a plain document.
-ghost use Rattle.std.specs.Prelude.{◌≡◌, ◌≤◌, ◌+◌, ◌⊎◌, ℕ, List, Option, Some, None, length, IsTrue, IfOk, IfErr, IsErrOf};
+//! How a session begins: the book is recovered, its root is read, and opens.
+ghost use Rattle.std.specs.Prelude.{◌≡◌, ◌≤◌, ◌+◌, ℕ, List, Option, None, length, IsTrue, IfOk, IfErr, IsErrOf};
 ghost use Rattle.xt_spec.specs.Tree.{Items as SyntaxItems};
-ghost use Rattle.xt_spec.specs.Plain.{IsPlainDocument};
 ghost use Rattle.bk_desk.specs.declared.desk_name.DeskName.TheVariants.{Book};
 ghost use Rattle.bk_desk.specs.Disk.{FitsCap, Syncs, got_of};
 ghost use Rattle.bk_desk.specs.CrashPoints.{AtEachCrash};
 ghost use Rattle.bk_desk.specs.Cause.{HasCause};
 ghost use Rattle.jr_burst.specs.SavedFiles.{recovered_files};
 ghost use Rattle.jr_burst.specs.Recover.{IsRecovered, IsStartOrRecovered, IsOnlySynced};
-ghost use Rattle.ed_session.specs.Kept.{Kept};
-ghost use Rattle.ed_session.specs.Start.{IsOver, IsNoDocument, IsStarted, FailsBy, size_of_got, recovered_steps, TakesSteps, HasRead};
+ghost use Rattle.ed_session.specs.Kept.{Kept, Opens};
+ghost use Rattle.ed_session.specs.Start.{IsOver, IsNoOpening, IsNoRoot, IsStarted, FailsBy, size_of_got, recovered_steps, TakesSteps, HasRead};
 
 use crate::kept::Session;
 use bk_desk::{Desk, DeskErr, DeskName, Got};
+use bk_info::BookFault;
 use bk_name::Name;
+use ent_doc::{OpenFault, Opened, open_document};
 use jr_burst::{RecoverFault, recover};
 use std::alloc::{AllocError, Global};
 use std::sync::ledger::Ledger;
 use thiserror::Error;
 use xt_lex::Steps;
-use xt_read::{Unplain, read_plain};
 
 /// The most bytes that a file may have.
 pub(crate) const MOST_BYTES: usize = 4_194_304;
 
 /// Why a book did not open.
-#[derive(Clone, Copy, Debug, PartialEq, Eq, Drop, Error)]
+#[derive(Debug, Drop, Error)]
 pub enum StartFault {
     /// The disk failed: its count of faults rose in this call.
     #[error("the disk failed")]
@@ -33,12 +33,9 @@ pub enum StartFault {
     /// The gate is open and the journal has no reading. Nothing was written.
     #[error("the journal is damaged")]
     Journal,
-    /// The root is not there.
-    #[error("the root is not there")]
-    Missing,
-    /// The root is no plain document, as `<a><!--c--></a>`.
-    #[error("the root is no plain document")]
-    NotYet,
+    /// The root is not there, is too long, or has this first fault.
+    #[error("the root does not open")]
+    Book(BookFault),
     /// Memory was wanting.
     #[error("out of memory")]
     NoMemory,
@@ -81,6 +78,19 @@ impl From<DeskErr> for StartFault {
     }
 }
 
+impl From<OpenFault> for StartFault {
+    ghost use Rattle.ed_session.specs.Start.{start_of_open};
+
+    ghost from_gives = { λ e fault. fault ≡ start_of_open e };
+
+    fn from(e: OpenFault) -> Self {
+        match e {
+            OpenFault::Book(fault) => StartFault::Book(fault),
+            OpenFault::NoMemory => StartFault::NoMemory,
+        }
+    }
+}
+
 /// The session over a root of these bytes.
 fn opened<L: Ledger>(
     alloc: Global,
@@ -90,21 +100,18 @@ fn opened<L: Ledger>(
 ) -> Result<Session, StartFault>
     requires fits { length bytes.items ≤ MOST_BYTES }
     ensures value { IfOk result (λ s. s ≡ record { root = root; bytes = bytes.items; saved = bytes.items }) }
-    ensures plain { IfOk result (λ s. (items : SyntaxItems) × IsPlainDocument bytes.items items) }
-    ensures fault { IsErrOf result StartFault.NotYet → (items : SyntaxItems) → ¬ IsPlainDocument bytes.items items }
-    ensures only { (fault : StartFault) → IsErrOf result fault → (fault ≡ StartFault.NotYet) ⊎ (fault ≡ StartFault.NoMemory) }
+    ensures opens { IfOk result (λ s. (items : SyntaxItems) × Opens root bytes.items items) }
+    ensures fault { IfErr result (IsNoOpening root bytes.items) }
     ensures count { steps.new ≡ steps.old + length bytes.items }
 {
-    match read_plain(alloc, bytes.as_slice(), steps) {
-        Ok(items) => Ok(Session {
-            root,
-            bytes,
-            items,
-            saved: None,
-        }),
-        Err(Unplain::NotPlain) => Err(StartFault::NotYet),
-        Err(Unplain::NoMemory) => Err(StartFault::NoMemory),
-    }
+    let Opened { items, nodes } = open_document(alloc, &root, bytes.as_slice(), steps)?;
+    Ok(Session {
+        root,
+        bytes,
+        items,
+        nodes: Some(nodes),
+        saved: None,
+    })
 }
 
 /// The session over what a read of the root gave.
@@ -116,15 +123,18 @@ fn opened_by<L: Ledger>(
 ) -> Result<Session, StartFault>
     requires fits { FitsCap MOST_BYTES got }
     ensures value { IfOk result (λ s. (found : Option (List ℕ)) → got ≡ got_of found MOST_BYTES → IsOver root.now found s) }
-    ensures fault { IsErrOf result StartFault.Missing → (found : Option (List ℕ)) → got ≡ got_of found MOST_BYTES → found ≡ None }
-    ensures none { IsErrOf result StartFault.NotYet → (found : Option (List ℕ)) → got ≡ got_of found MOST_BYTES → IsNoDocument found }
+    ensures fault { IfErr result (λ e. (found : Option (List ℕ)) → got ≡ got_of found MOST_BYTES → IsNoRoot root.now found e) }
     ensures only { ¬ IsErrOf result StartFault.Desk × ¬ IsErrOf result StartFault.Journal }
     ensures count { steps.new ≤ steps.old + MOST_BYTES }
     ensures exact { (steps.old ≤ steps.new) × TakesSteps (¬ IsErrOf result StartFault.NoMemory) (size_of_got got) steps.old steps.new }
 {
     match got {
-        Got::Absent => Err(StartFault::Missing),
-        Got::Longer => Err(StartFault::NotYet),
+        Got::Absent => Err(StartFault::Book(BookFault::Missing {
+            file: root.share()?,
+        })),
+        Got::Longer => Err(StartFault::Book(BookFault::TooLarge {
+            file: root.share()?,
+        })),
         Got::Bytes(bytes) => opened(alloc, root.share()?, bytes.into_vec(), steps),
     }
 }

@@ -1,8 +1,7 @@
-use Rattle.std.proofs.Common.{rules, None}
-use Rattle.ed_session.proofs.KeptLemmas.{is_open}
+use Rattle.std.proofs.Common.{None, rules}
+use Rattle.ed_session.proofs.KeptLemmas.{is_open_root}
 use Rattle.ed_session.proofs.opening.opened.Goals as goal
 
--- src/opening.rt:99:22
 pub invariant_of-result : goal.invariant_of-result
 invariant_of-result g c =
-    is_open c.args.bytes.items c.as_slice.result.now c.in-Ok.items None (search rules) c.in-Ok.ensures.value c.in-Ok.ensures.place (search rules)
+    is_open_root c.args.root c.args.bytes.items c.as_slice.result.now c.in_ok-items.field-0.items c.in_ok-items.field-0.nodes None (search rules) c.in_ok-items.ensures.value c.in_ok-items.ensures.place (search rules)
