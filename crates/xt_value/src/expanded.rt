@@ -1,5 +1,6 @@
 //! Expanded names. Namespaces in XML 1.0, sections 2.1, 5 and 6.2.
 ghost use Rattle.std.specs.Prelude.{◌≡◌, [], Some, None, unwrap_or, IfOk, IsErrOf};
+ghost use Rattle.std.specs.Option.{option_copied};
 ghost use Rattle.xt_spec.specs.Namespace as spec;
 
 use crate::scope::Scope;
@@ -70,6 +71,32 @@ impl From<AllocError> for NameFault {
     fn from(_e: AllocError) -> Self {
         NameFault::NoMemory
     }
+}
+
+/// The prefix of a name, where it has one, and its local part.
+fn split_qname(qname: &str) -> (Option<&str>, &str)
+    ensures prefix { option_copied result.0 ≡ spec.prefix_of qname.now }
+    ensures local { result.1.now ≡ spec.local_of qname.now }
+{
+    match qname.split_once(':') {
+        Some((prefix, local)) => (Some(prefix), local),
+        None => (None, qname),
+    }
+}
+
+/// The prefix of a name, empty where it has none.
+pub fn prefix_of(qname: &str) -> &str
+    ensures value { result.now ≡ unwrap_or (spec.prefix_of qname.now) [] }
+{
+    let (prefix, _) = split_qname(qname);
+    prefix.unwrap_or("")
+}
+
+/// Whether an attribute of this name declares a namespace.
+pub fn is_declaration(name: &str) -> bool
+    ensures value { result ≡ spec.is_declaration name.now }
+{
+    name == "xmlns" || prefix_of(name) == "xmlns"
 }
 
 /// The expanded name of an attribute, or of an element: a default namespace is for elements alone.

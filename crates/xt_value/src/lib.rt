@@ -12,7 +12,7 @@ mod scope;
 mod text;
 
 pub use attribute::attribute_value;
-pub use expanded::{Expanded, NameFault, expand_name};
+pub use expanded::{Expanded, NameFault, expand_name, is_declaration, prefix_of};
 pub use markup::{PiParts, comment_text, pi_parts};
 pub use named::NamedText;
 pub use scope::{Scope, ScopeFault, scope_of};
