@@ -4,7 +4,14 @@
 #![tactic(auto)]
 
 mod document;
+mod element;
 mod fault;
+mod leaf;
+mod names;
+mod source;
+mod tag;
+mod tree;
+mod work;
 
 pub use document::document_nodes;
 pub use fault::OpenFault;
