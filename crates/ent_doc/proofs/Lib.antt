@@ -6,3 +6,7 @@ mod ElementLemmas
 mod ItemLemmas
 mod TagLemmas
 mod DocumentLemmas
+mod AroundLemmas
+mod DistinctLemmas
+mod AttributeLemmas
+mod OwnLemmas

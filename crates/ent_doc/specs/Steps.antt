@@ -4,10 +4,16 @@
 --   prepended        nodes, and those behind them, where there was no fault
 --   Gives            the items up to a rest give these nodes
 --   GivesFault       the items have this fault
+--   IsAttrOf         the attribute of a name and a value
+--   attr_value       the value of the attribute of a name
+--   are_apart        no two attributes have one expanded name
 --   attribute_at     an attribute's name and value, at their spans
 --   AreTagsInPlace   each tag stands somewhere, with its parts at their spans
-use Rattle.std.specs.Prelude.{◌≡◌, ℕ, List, [], ◌∷◌, Option, None, Some, Result, Ok, Err}
+use Rattle.std.specs.Prelude.{◌≡◌, ℕ, Bool, true, not, ◌&&◌, List, [], ◌∷◌, Option, None, Some, Result, Ok, Err, bytes_eq, if◌then◌else◌}
+use Rattle.std.specs.Borrow.{Bor}
+use Rattle.std.specs.List.{list_any}
 use Rattle.xt_spec.specs.Tree.{Items}
+use Rattle.xt_spec.specs.Namespace.{NamedValue, Binding, Expanded}
 use Rattle.xt_spec.specs.Content.{Content, HasContent}
 use Rattle.xt_spec.specs.Tag.{Attribute}
 use Rattle.xt_lex.specs.declared.attribute.AttrSrc.{AttrSrc}
@@ -15,9 +21,10 @@ use Rattle.xt_tree.specs.Meaning.{at_span}
 use Rattle.xt_tree.specs.Places.{Mark, tag_mark, span_mark, IsTagAt}
 use Rattle.bk_spec.specs.Node.{Nodes, owned}
 use Rattle.bk_spec.specs.Fault.{Fault}
-use Rattle.bk_spec.specs.DocumentNodes.{Context, Element, and_then, nodes_of}
+use Rattle.bk_spec.specs.DocumentNodes.{Context, Element, and_then, named, attr_of, has_name, nodes_of}
+use Rattle.bk_info.specs.declared.attr.Attr.{Attr}
 use Rattle.bk_info.specs.declared.node.Node.{Node}
-use Rattle.bk_info.specs.Nodes.{head_in, nodes_before, fault_in}
+use Rattle.bk_info.specs.Nodes.{attr_in, head_in, nodes_before, fault_in}
 use Rattle.ent_doc.specs.declared.fault.OpenFault.{OpenFault}
 use Rattle.ent_doc.specs.declared.fault.OpenFault.TheVariants.{Book, NoMemory}
 use Rattle.ent_doc.specs.declared.element.Own.{Own}
@@ -48,6 +55,27 @@ some_node (Some node) = node ∷ []
 -- an element's own and the context of what it holds, of what the code keeps
 abbrev pub element_in : List ℕ → Own → Element
 element_in file own = record { head = head_in own.name own.attrs own.context (owned file); context = own.context }
+
+-- the attribute of this name and value, as written in the file
+abbrev pub IsAttrOf : List ℕ → List Binding → NamedValue → Attr → Type 0
+IsAttrOf file scope value attr = (name : Expanded) × (named file scope true value.name ≡ Ok name) × (attr_in attr ≡ attr_of value name)
+
+-- the value of the attribute of this name, as written
+abbrev pub attr_value : List Attr → List ℕ → Option (List ℕ)
+attr_value [] name = None
+attr_value (a ∷ others) name = if bytes_eq a.qname name then Some a.value else attr_value others name
+
+-- what is compared of an attribute: the name of its namespace, and its local name
+abbrev pub attr_texts : Attr → List ℕ × List ℕ
+attr_texts attr = (attr.name.space, attr.name.local)
+
+abbrev pub key_texts : Bor (List ℕ) × Bor (List ℕ) → List ℕ × List ℕ
+key_texts key = (key.0.now, key.1.now)
+
+-- no two attributes have one expanded name
+abbrev pub are_apart : List Attr → Bool
+are_apart [] = true
+are_apart (a ∷ others) = not (list_any (λ other. has_name (attr_in a) (attr_in other)) others) && are_apart others
 
 -- an attribute's name and value, at their spans
 abbrev pub attribute_at : List ℕ → AttrSrc → Attribute

@@ -3,6 +3,9 @@
 //! So far of documents that need no declaration, and of one file. What a reading is, is for `xt_read`.
 #![tactic(auto)]
 
+mod around;
+mod attribute;
+mod distinct;
 mod document;
 mod element;
 mod fault;
