@@ -1,6 +1,7 @@
 //! What a node came from.
-ghost use Rattle.std.specs.Prelude.{◌≡◌, IfOk};
-ghost use Rattle.bk_spec.specs.Node.{owned};
+ghost use Rattle.std.specs.Prelude.{◌≡◌, IfOk, MatchOption};
+ghost use Rattle.bk_spec.specs.Node.{owned, from_entity};
+ghost use Rattle.bk_info.specs.Origins.{file_of};
 
 use bk_name::Name;
 use std::alloc::{AllocError, Global};
@@ -38,6 +39,26 @@ impl Origin {
         Ok(Origin {
             source: Shared::new(alloc, Source::File(name))?,
         })
+    }
+
+    /// The name of the file; for an entity, of the one that holds the reference.
+    pub fn file_name(&self) -> &str
+        ensures value { result.now ≡ file_of self.now }
+    {
+        match self.source.get() {
+            Source::File(name) => name.as_str(),
+            Source::Entity(name, _) => name.as_str(),
+        }
+    }
+
+    /// The name of the entity, where it is one.
+    pub fn entity(&self) -> Option<&str>
+        ensures value { MatchOption result (self.now ≡ owned (file_of self.now)) (λ entity. self.now ≡ from_entity (file_of self.now) entity.now) }
+    {
+        match self.source.get() {
+            Source::File(_) => None,
+            Source::Entity(_, entity) => Some(entity.as_str()),
+        }
     }
 
     /// One more owner of the same origin. The one error is a full count of owners.

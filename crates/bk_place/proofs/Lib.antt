@@ -1,11 +1,2 @@
-mod ValueLemmas
-mod CharLemmas
-mod ReferenceLemmas
-mod TextLemmas
-mod PlaceLemmas
-mod TreeLemmas
-mod ItemLemmas
-mod NodeLemmas
-mod UniqueLemmas
-mod Examples
-pub mod Theorems
+pub mod ValueLemmas
+pub mod TreeLemmas

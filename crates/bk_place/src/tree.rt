@@ -1,210 +1,280 @@
-//! The printed tree of a plain document, from its items: a line a node, two spaces a level before it.
-ghost use Rattle.std.specs.Prelude.{◌≡◌, ℕ, true, [], ◌∷◌, ◌++◌, List, Option, map, OnOk, IfOk};
-ghost use Rattle.xt_spec.specs.Tree.{nil, Items as TreeItems};
-ghost use Rattle.bk_spec.specs.Node.{Nodes, Head, Attr};
-ghost use Rattle.bk_spec.specs.PlainNodes.{plain_attr, GivesAttributes, GivesHead, GivesNodes};
-ghost use Rattle.bk_spec.specs.Print.{deeper, attribute_line, attribute_lines, print_tree};
-ghost use Rattle.xt_spec.specs.Value.{HasAttributeValue};
-ghost use Rattle.xt_spec.specs.PlainText.{HasTextValue};
-ghost use Rattle.bk_spec.specs.Node.{owned};
+//! The printed tree of nodes: a line a node, two spaces a level before it.
+ghost use Rattle.std.specs.Prelude.{◌≡◌, ◌++◌, List, ℕ, Some, codes, OnOk, IfOk};
+ghost use Rattle.bk_spec.specs.Node.{Head, Nodes};
 ghost use Rattle.bk_spec.specs.Print as page;
-ghost use Rattle.xt_tree.specs.Meaning.{at_span, item_of, items_in};
-ghost use Rattle.xt_tree.specs.Places.{tag_mark, marks_in, marks_of};
-ghost use Rattle.bk_place.specs.ValueParts.{has_no_cr};
-ghost use Rattle.bk_place.specs.Printing.{IsIndent, parent_of, head_lines, PrintsItem, PrintsItems, PrintsAttributes, attribute_at, AreTagsInPlace};
+ghost use Rattle.bk_spec.specs.Print.{deeper, owner_text, how_text, quoted_text, attribute_lines, print_nodes, print_tree};
+ghost use Rattle.bk_info.specs.Nodes.{how_in, attr_in, attrs_in, head_in, node_in, nodes_in};
+ghost use Rattle.bk_place.specs.Printing.{IsIndent, own_lines, space_text, value_end};
+ghost use Rattle.std.specs.Option.{option_copied};
 
-use crate::owner::Owner;
-use crate::value::{put, put_quoted, put_text};
+use crate::value::{put, put_value};
+use bk_info::{Attr, Context, How, Node, NodeName, Origin};
+use bk_name::Uri;
 use std::alloc::{AllocError, Global};
-use xt_lex::{AttrSrc, Span};
-use xt_tree::{Src, Tag};
 
-/// The bytes at a span, as far as there are any.
-fn text_at(bytes: &[u8], span: Span) -> &[u8]
-    ensures value { result.now ≡ at_span bytes.now span }
-    ensures no_cr { has_no_cr bytes.now ≡ true → has_no_cr result.now ≡ true }
+/// The name of the namespace of `xml`.
+const XML: &str = "http://www.w3.org/XML/1998/namespace";
+
+/// What stands before the local name.
+fn put_space(out: &mut Vec<u8>, space: &str) -> Result<(), AllocError>
+    ensures value { OnOk result (out.new.items ≡ out.old.items ++ space_text space.now) }
 {
-    let to = (span.to as usize).min(bytes.len());
-    let from = (span.from as usize).min(to);
-    &bytes[from..to]
+    if space.is_empty() {
+        return Ok(());
+    }
+    if space == XML {
+        return put(out, b"xml:");
+    }
+    put(out, b"{")?;
+    put(out, space.as_bytes())?;
+    put(out, b"}")
+}
+
+fn put_name(out: &mut Vec<u8>, name: &NodeName) -> Result<(), AllocError>
+    ensures value { OnOk result (out.new.items ≡ out.old.items ++ page.name_text name.now.space name.now.local) }
+{
+    put_space(out, name.space())?;
+    put(out, name.local().as_bytes())
+}
+
+/// The end of a node's line: where it came from.
+fn put_origin(out: &mut Vec<u8>, origin: &Origin) -> Result<(), AllocError>
+    ensures value { OnOk result (out.new.items ≡ out.old.items ++ codes " in " ++ owner_text origin.now ++ codes "\n") }
+{
+    put(out, b" in ")?;
+    put(out, origin.file_name().as_bytes())?;
+    if let Some(entity) = origin.entity() {
+        put(out, b" by &")?;
+        put(out, entity.as_bytes())?;
+        return put(out, b";\n");
+    }
+    put(out, b"\n")
 }
 
 fn put_element_line(
     out: &mut Vec<u8>,
     indent: &[u8],
-    file: &Owner<'_>,
-    name: &[u8],
+    name: &NodeName,
+    origin: &Origin,
 ) -> Result<(), AllocError>
-    ensures value { OnOk result ((head : Head) → head.space ≡ [] → head.local ≡ name.now → head.origin ≡ owned file.now → out.new.items ≡ out.old.items ++ page.element_line indent.now head) }
+    ensures value { OnOk result ((head : Head) → head.space ≡ name.now.space → head.local ≡ name.now.local → head.origin ≡ origin.now → out.new.items ≡ out.old.items ++ page.element_line indent.now head) }
 {
     put(out, indent)?;
     put(out, b"element ")?;
-    put(out, name)?;
-    put(out, file.end())
+    put_name(out, name)?;
+    put_origin(out, origin)
 }
 
-/// At the top alone, since the base is the same in all of the file.
-fn put_base_line(out: &mut Vec<u8>, indent: &[u8], uri: &[u8]) -> Result<(), AllocError>
-    ensures value { OnOk result (out.new.items ≡ out.old.items ++ page.base_line (deeper indent.now) (parent_of uri.now indent.now) uri.now) }
+/// The base URI, where it isn't the parent's.
+fn put_base_line(
+    out: &mut Vec<u8>,
+    indent: &[u8],
+    parent: Option<&Uri>,
+    base: &Uri,
+) -> Result<(), AllocError>
+    ensures value { OnOk result (out.new.items ≡ out.old.items ++ page.base_line (deeper indent.now) (option_copied parent.entry) base.now) }
 {
-    if !indent.is_empty() {
-        return Ok(());
+    if let Some(parent) = parent {
+        if parent.as_str() == base.as_str() {
+            return Ok(());
+        }
     }
-    put(out, b"  base ")?;
-    put(out, uri)?;
+    put(out, b"  ")?;
+    put(out, indent)?;
+    put(out, b"base ")?;
+    put(out, base.as_str().as_bytes())?;
     put(out, b"\n")
 }
 
-fn put_attribute_line(
-    out: &mut Vec<u8>,
-    indent: &[u8],
-    name: &[u8],
-    quoted: &[u8],
-) -> Result<(), AllocError>
-    requires no_cr { has_no_cr quoted.now ≡ true }
-    ensures value { OnOk result ((value : List ℕ) → HasAttributeValue quoted.now value → out.new.items ≡ out.old.items ++ attribute_line (deeper indent.now) (plain_attr name.now value)) }
+/// How an attribute came, where it isn't written.
+fn put_how(out: &mut Vec<u8>, how: How) -> Result<(), AllocError>
+    ensures value { OnOk result (out.new.items ≡ out.old.items ++ how_text (how_in how)) }
+{
+    match how {
+        How::Written => Ok(()),
+        How::Default => put(out, b" default"),
+        How::Fixup => put(out, b" fixup"),
+    }
+}
+
+fn put_attribute_name(out: &mut Vec<u8>, indent: &[u8], name: &NodeName) -> Result<(), AllocError>
+    ensures value { OnOk result (out.new.items ≡ out.old.items ++ deeper indent.now ++ codes "attribute " ++ page.name_text name.now.space name.now.local) }
 {
     put(out, b"  ")?;
     put(out, indent)?;
     put(out, b"attribute ")?;
-    put(out, name)?;
-    put(out, b"=\"")?;
-    put_quoted(out, quoted)?;
-    put(out, b"\"\n")
+    put_name(out, name)
 }
 
-fn put_attributes(
-    out: &mut Vec<u8>,
-    indent: &[u8],
-    bytes: &[u8],
-    attrs: &[AttrSrc],
-) -> Result<(), AllocError>
-    requires no_cr { has_no_cr bytes.now ≡ true }
-    ensures value { OnOk result (PrintsAttributes (deeper indent.now) (map (attribute_at bytes.now) attrs.now) [] out.old.items out.new.items) }
+/// A value with its quotes.
+fn put_quoted(out: &mut Vec<u8>, value: &str) -> Result<(), AllocError>
+    ensures value { OnOk result (out.new.items ≡ out.old.items ++ quoted_text value.now) }
+{
+    put(out, b"\"")?;
+    put_value(out, value.as_bytes())?;
+    put(out, b"\"")
+}
+
+fn put_attribute_line(out: &mut Vec<u8>, indent: &[u8], attr: &Attr) -> Result<(), AllocError>
+    ensures value { OnOk result (out.new.items ≡ out.old.items ++ page.attribute_line (deeper indent.now) (attr_in attr.now)) }
+{
+    put_attribute_name(out, indent, &attr.name)?;
+    put(out, b"=")?;
+    put_quoted(out, attr.value.as_str())?;
+    put_how(out, attr.how)?;
+    put(out, b"\n")
+}
+
+fn put_attributes(out: &mut Vec<u8>, indent: &[u8], attrs: &[Attr]) -> Result<(), AllocError>
+    ensures value { OnOk result (out.new.items ≡ out.old.items ++ attribute_lines (deeper indent.now) (attrs_in attrs.now)) }
 {
     for attr in attrs {
-        put_attribute_line(
-            out,
-            indent,
-            text_at(bytes, attr.name),
-            text_at(bytes, attr.value),
-        )?;
+        put_attribute_line(out, indent, attr)?;
     }
     Ok(())
 }
 
 /// The lines of an element's own, before those of what it holds.
-fn put_head(
+fn put_element(
     out: &mut Vec<u8>,
     indent: &[u8],
-    file: &Owner<'_>,
-    uri: &[u8],
-    bytes: &[u8],
-    tag: &Tag,
+    parent: Option<&Uri>,
+    name: &NodeName,
+    attrs: &[Attr],
+    context: &Context,
+    origin: &Origin,
 ) -> Result<(), AllocError>
-    requires no_cr { has_no_cr bytes.now ≡ true }
-    ensures value { OnOk result (AreTagsInPlace bytes.now (tag_mark tag.now ∷ []) → (close : Option (List ℕ)) (head : Head) → GivesHead file.now uri.now (at_span bytes.now tag.now.span) close head → out.new.items ≡ out.old.items ++ head_lines uri.now indent.now head) }
+    ensures value { OnOk result (out.new.items ≡ out.old.items ++ own_lines indent.now (option_copied parent.entry) (head_in name.now attrs.now context.now origin.now)) }
 {
-    put_element_line(out, indent, file, text_at(bytes, tag.name))?;
-    put_base_line(out, indent, uri)?;
-    put_attributes(out, indent, bytes, tag.attrs.as_slice())
+    put_element_line(out, indent, name, origin)?;
+    put_base_line(out, indent, parent, context.base())?;
+    put_attributes(out, indent, attrs)
+}
+
+/// A value with its quotes, and where it came from.
+fn put_value_end(out: &mut Vec<u8>, value: &str, origin: &Origin) -> Result<(), AllocError>
+    ensures value { OnOk result (out.new.items ≡ out.old.items ++ value_end value.now origin.now) }
+{
+    put_quoted(out, value)?;
+    put_origin(out, origin)
 }
 
 fn put_text_line(
     out: &mut Vec<u8>,
     indent: &[u8],
-    file: &Owner<'_>,
-    text: &[u8],
+    value: &str,
+    origin: &Origin,
 ) -> Result<(), AllocError>
-    requires no_cr { has_no_cr text.now ≡ true }
-    ensures value { OnOk result ((value : List ℕ) → HasTextValue text.now value → out.new.items ≡ out.old.items ++ page.text_line indent.now value (owned file.now)) }
+    ensures value { OnOk result (out.new.items ≡ out.old.items ++ page.text_line indent.now value.now origin.now) }
 {
     put(out, indent)?;
-    put(out, b"text \"")?;
-    put_text(out, text)?;
-    put(out, file.text_end())
+    put(out, b"text ")?;
+    put_value_end(out, value, origin)
+}
+
+fn put_comment_line(
+    out: &mut Vec<u8>,
+    indent: &[u8],
+    value: &str,
+    origin: &Origin,
+) -> Result<(), AllocError>
+    ensures value { OnOk result (out.new.items ≡ out.old.items ++ page.comment_line indent.now value.now origin.now) }
+{
+    put(out, indent)?;
+    put(out, b"comment ")?;
+    put_value_end(out, value, origin)
+}
+
+fn put_pi_line(
+    out: &mut Vec<u8>,
+    indent: &[u8],
+    target: &str,
+    value: &str,
+    origin: &Origin,
+) -> Result<(), AllocError>
+    ensures value { OnOk result (out.new.items ≡ out.old.items ++ page.pi_line indent.now target.now value.now origin.now) }
+{
+    put(out, indent)?;
+    put(out, b"pi ")?;
+    put(out, target.as_bytes())?;
+    put(out, b" ")?;
+    put_value_end(out, value, origin)
 }
 
 #[cycle(printing)]
-fn put_item(
+fn put_node(
     out: &mut Vec<u8>,
     indent: &mut Vec<u8>,
-    file: &Owner<'_>,
-    uri: &[u8],
-    bytes: &[u8],
-    item: &Src,
+    parent: Option<&Uri>,
+    node: &Node,
 ) -> Result<(), AllocError>
     requires spaces { IsIndent indent.old.items }
-    requires no_cr { has_no_cr bytes.now ≡ true }
-    ensures value { OnOk result (AreTagsInPlace bytes.now (marks_in item.now) → PrintsItem file.now uri.now indent.old.items (item_of bytes.now item.now) out.old.items out.new.items) }
+    ensures value { OnOk result ((others : Nodes) → out.old.items ++ print_nodes indent.old.items (option_copied parent.entry) (node_in node.now others) ≡ out.new.items ++ print_nodes indent.old.items (option_copied parent.entry) others) }
     ensures same { OnOk result (indent.new.items ≡ indent.old.items) }
 {
-    match item {
-        Src::Elem { head, kids, .. } => {
-            put_head(out, indent, file, uri, bytes, head)?;
-            put_kids(out, indent, file, uri, bytes, kids.as_slice())
+    match node {
+        Node::Elem {
+            name,
+            attrs,
+            context,
+            kids,
+            origin,
+        } => {
+            put_element(out, indent, parent, name, attrs.as_slice(), context, origin)?;
+            put_kids(out, indent, context.base(), kids.as_slice())
         }
-        Src::Text(span) => put_text_line(out, indent, file, text_at(bytes, *span)),
-        Src::Ref(_) | Src::Comment(_) | Src::Pi(_) | Src::Gap(_) => Ok(()),
+        Node::Text { value, origin } => put_text_line(out, indent, value.as_str(), origin),
+        Node::Comment { value, origin } => put_comment_line(out, indent, value.as_str(), origin),
+        Node::Pi {
+            target,
+            value,
+            origin,
+        } => put_pi_line(out, indent, target.as_str(), value.as_str(), origin),
     }
 }
 
-/// The items of an element, a level deeper.
+/// The nodes of an element, a level deeper.
 #[cycle(printing)]
 fn put_kids(
     out: &mut Vec<u8>,
     indent: &mut Vec<u8>,
-    file: &Owner<'_>,
-    uri: &[u8],
-    bytes: &[u8],
-    kids: &[Src],
+    base: &Uri,
+    kids: &[Node],
 ) -> Result<(), AllocError>
     requires spaces { IsIndent indent.old.items }
-    requires no_cr { has_no_cr bytes.now ≡ true }
-    ensures value { OnOk result (AreTagsInPlace bytes.now (marks_of kids.now) → PrintsItems file.now uri.now (deeper indent.old.items) (items_in bytes.now kids.now) nil out.old.items out.new.items) }
+    ensures value { OnOk result (out.new.items ≡ out.old.items ++ print_nodes (deeper indent.old.items) (Some base.now) (nodes_in kids.now)) }
     ensures same { OnOk result (indent.new.items ≡ indent.old.items) }
 {
     let level = indent.len();
     put(indent, b"  ")?;
-    put_items(out, indent, file, uri, bytes, kids)?;
+    put_nodes(out, indent, Some(base), kids)?;
     indent.truncate(level);
     Ok(())
 }
 
 #[cycle(printing)]
-fn put_items(
+fn put_nodes(
     out: &mut Vec<u8>,
     indent: &mut Vec<u8>,
-    file: &Owner<'_>,
-    uri: &[u8],
-    bytes: &[u8],
-    items: &[Src],
+    parent: Option<&Uri>,
+    nodes: &[Node],
 ) -> Result<(), AllocError>
     requires spaces { IsIndent indent.old.items }
-    requires no_cr { has_no_cr bytes.now ≡ true }
-    ensures value { OnOk result (AreTagsInPlace bytes.now (marks_of items.now) → PrintsItems file.now uri.now indent.old.items (items_in bytes.now items.now) nil out.old.items out.new.items) }
+    ensures value { OnOk result (out.new.items ≡ out.old.items ++ print_nodes indent.old.items (option_copied parent.entry) (nodes_in nodes.now)) }
     ensures same { OnOk result (indent.new.items ≡ indent.old.items) }
 {
-    for item in items {
-        put_item(out, indent, file, uri, bytes, item)?;
+    for node in nodes {
+        put_node(out, indent, parent, node)?;
     }
     Ok(())
 }
 
-/// The printed tree of the items of a file that has this name and URI. The one error is want of memory.
-pub fn print(
-    alloc: Global,
-    file: &[u8],
-    uri: &[u8],
-    bytes: &[u8],
-    items: &[Src],
-) -> Result<Vec<u8>, AllocError>
-    requires no_cr { has_no_cr bytes.now ≡ true }
-    ensures value { IfOk result (λ text. AreTagsInPlace bytes.now (marks_of items.now) → (nodes : Nodes) → GivesNodes file.now uri.now (items_in bytes.now items.now) nodes → text.items ≡ print_tree nodes) }
+/// The printed tree of nodes. The one error is want of memory.
+pub fn print(alloc: Global, nodes: &[Node]) -> Result<Vec<u8>, AllocError>
+    ensures value { IfOk result (λ text. text.items ≡ print_tree (nodes_in nodes.now)) }
 {
-    let owner = Owner::new(alloc, file)?;
     let mut out = Vec::new(alloc);
     let mut indent = Vec::new(alloc);
-    put_items(&mut out, &mut indent, &owner, uri, bytes, items)?;
+    put_nodes(&mut out, &mut indent, None, nodes)?;
     Ok(out)
 }

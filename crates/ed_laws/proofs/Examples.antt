@@ -1,7 +1,7 @@
 -- Edits of a small tree and their outcomes.
 use Rattle.std.proofs.Common.{ℕ, List, [], ◌∷◌, refl, arith, inr, codes, Some, encode_utf8_all}
-use Rattle.xt_spec.specs.Tree.{Items, nil, element, leaf, text_item, leaf_item, element_item}
-use Rattle.xt_spec.specs.PlainText.{HasTextValue}
+use Rattle.xt_spec.specs.Tree.{Items, nil, element, leaf, text_item, comment_item, leaf_item, element_item}
+use Rattle.xt_spec.specs.Text.{HasTextValue, section_part}
 use Rattle.ed_spec.specs.Edit.{text_edit, no_such_place, wrong_kind, bad_range, no_node, no_text, no_range, accepted}
 use Rattle.ed_laws.specs.Outcome.{refused, gives, HasOutcome}
 use Rattle.xt_escape.proofs.Theorems.{escape_has_value}
@@ -31,3 +31,22 @@ tells_one_reason has = let same = one_outcome (holds (codes "x")) (text_edit (1 
 
 takes_two_of_one : HasOutcome (holds (codes "x")) (text_edit (1 ∷ 1 ∷ []) 0 2 []) (refused bad_range)
 takes_two_of_one = no_range (1 ∷ 1 ∷ []) 0 2 [] (0 ∷ 0 ∷ []) (leaf_item text_item (codes "x")) (codes "x") (record { leads = refl; there = refl }) letter (inr (omega arith))
+
+-- <a><![CDATA[]]><!--c-->x</a>: a text with an empty value has no number, a comment has one
+abbrev behind : List ℕ → Items
+behind text = element (codes "<a>") (leaf text_item (codes "<![CDATA[]]>") (leaf comment_item (codes "<!--c-->") (leaf text_item text nil))) (Some (codes "</a>")) nil
+
+counts_no_empty_section : HasOutcome (behind (codes "x")) (text_edit (1 ∷ 2 ∷ []) 1 1 (codes "y")) (gives (behind (codes "xy")))
+unfolding lib.Utf8.encode
+counts_no_empty_section = accepted (1 ∷ 2 ∷ []) 1 1 (codes "y") (0 ∷ 2 ∷ []) (codes "x") (record { item = leaf_item text_item (codes "x"); at = record { leads = refl; there = refl }; value = letter; ascends = omega arith; within = omega arith }) refl (omega arith)
+
+refuses_a_comment : HasOutcome (behind (codes "x")) (text_edit (1 ∷ 1 ∷ []) 0 0 []) (refused wrong_kind)
+refuses_a_comment = no_text (1 ∷ 1 ∷ []) 0 0 [] (0 ∷ 1 ∷ []) (leaf_item comment_item (codes "<!--c-->")) (record { leads = refl; there = refl }) refl
+
+finds_no_third_node : HasOutcome (behind (codes "x")) (text_edit (1 ∷ 3 ∷ []) 0 0 []) (refused no_such_place)
+finds_no_third_node = no_node (1 ∷ 3 ∷ []) 0 0 [] refl
+
+-- the value of a section counts as it stands
+section_has_its_characters : HasTextValue (codes "<![CDATA[<]]>") (encode_utf8_all (codes "<"))
+unfolding lib.Utf8.encode
+section_has_its_characters = (section_part (codes "<![CDATA[<]]>") (codes "<") ∷ [], (((codes "<", refl, refl), refl, refl), tt), refl, refl)

@@ -1,7 +1,10 @@
 pub mod Values
+pub mod VoidTexts
 pub mod Places
+pub mod NodeLemmas
 pub mod Nodes
 pub mod Outcomes
+pub mod Opened
 pub mod Theorems
 pub mod Replies
 mod Examples

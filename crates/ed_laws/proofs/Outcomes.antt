@@ -1,4 +1,4 @@
--- An edit has one outcome over given items, and over those of a plain document it has one.
+-- An edit has one outcome over given items, and over those of a document it has one.
 use Rattle.std.proofs.Common.{◌≡◌, ◌≢◌, ◌∙◌, ℕ, ◌<◌, ◌≤◌, ◌⊎◌, List, [], length, refl, sym, ap, subst, arith, Option, Some, None, Bool, true, false, not, ◌||◌, nat_lt, nat_eq, if◌then◌else◌, inl, inr}
 use Rattle.std.proofs.lemmas.Bool.{cases_Bool, cases_lt}
 use Rattle.std.proofs.lemmas.Bool.Decides.{nat_tests}
@@ -6,14 +6,15 @@ use Rattle.std.specs.List.{list_all}
 use Rattle.std.specs.Cmp.Lexicographic.{pointwise, bytes_decides}
 use Rattle.xt_spec.specs.Char.{is_char}
 use Rattle.xt_spec.specs.Tree.{Items, Item, element_item, leaf_item, text_item, reference_item, comment_item, pi_item, gap, source_text}
-use Rattle.xt_spec.specs.Plain.{IsPlainDocument}
+use Rattle.xt_spec.specs.Reading.{document, IsOrdered}
 use Rattle.xt_spec.specs.Paths.{item_at}
 use Rattle.ed_spec.specs.Place.{path_of}
 use Rattle.ed_spec.specs.Book.{Book}
 use Rattle.ed_spec.specs.Edit.{Edit, text_edit, Refusal, no_such_place, wrong_kind, bad_range, bad_text, too_large, IsTextItemOf, is_text, IsAt, IsInText, edited, Refuses, no_node, no_text, no_range, no_char, no_room, Accepts, accepted, AcceptsIn}
+use Rattle.ed_text.proofs.Theorems.{document_text_at}
 use Rattle.ed_laws.specs.Outcome.{Outcome, refused, gives, HasOutcome}
 use Rattle.ed_laws.proofs.Nodes.{text_of_item}
-use Rattle.ed_laws.proofs.Places.{place_leads, text_at}
+use Rattle.ed_laws.proofs.Places.{place_leads}
 use Rattle.ed_laws.proofs.Values.{has_chars, same_chars}
 
 -- ---- what a place leads to is one
@@ -130,15 +131,15 @@ refusal_ends items _ _ _ _ _ (no_room place from to new path characters inside a
     inr (in_text items place from to new path characters (Some too_large) inside (rw are (rw (more_than 4194304 (length (source_text (edited items path characters from to new))) more) refl)))
 
 -- the text of an accepted edit
-record IsAccepted (items : Items) (place : List ℕ) (from to : ℕ) (new : List ℕ) (others : Items) : Type 0 where
-  path : List ℕ
-  characters : List ℕ
-  inside : IsInText items place from to path characters
-  are : list_all is_char new ≡ true
-  fits : length (source_text (edited items path characters from to new)) ≤ 4194304
-  is : others ≡ edited items path characters from to new
+pub record IsAccepted (items : Items) (place : List ℕ) (from to : ℕ) (new : List ℕ) (others : Items) : Type 0 where
+  pub path : List ℕ
+  pub characters : List ℕ
+  pub inside : IsInText items place from to path characters
+  pub are : list_all is_char new ≡ true
+  pub fits : length (source_text (edited items path characters from to new)) ≤ 4194304
+  pub is : others ≡ edited items path characters from to new
 
-accepted_is : (items : Items) (place : List ℕ) (from to : ℕ) (new : List ℕ) (others : Items) → Accepts items (text_edit place from to new) others → IsAccepted items place from to new others
+pub accepted_is : (items : Items) (place : List ℕ) (from to : ℕ) (new : List ℕ) (others : Items) → Accepts items (text_edit place from to new) others → IsAccepted items place from to new others
 accepted_is items _ _ _ _ _ (accepted place from to new path characters inside are fits) = record { path = path; characters = characters; inside = inside; are = are; fits = fits; is = refl }
 
 accepted_ends : (items : Items) (place : List ℕ) (from to : ℕ) (new : List ℕ) (others : Items) → IsAccepted items place from to new others → EndsAs items place from to new None
@@ -206,8 +207,8 @@ text_outcome items place from to new path item characters at value = elim (cases
       ]
     ]
 
-pub has_an_outcome : (bytes : List ℕ) (items : Items) (edit : Edit) → IsPlainDocument bytes items → (outcome : Outcome) × HasOutcome items edit outcome
-has_an_outcome bytes items (text_edit place from to new) plain = by (path_of items place) refl
+pub ordered_outcome : (items : Items) (edit : Edit) → IsOrdered document items → (outcome : Outcome) × HasOutcome items edit outcome
+ordered_outcome items (text_edit place from to new) ordered = by (path_of items place) refl
   where
     by : (found : Option (List ℕ)) → path_of items place ≡ found → (outcome : Outcome) × HasOutcome items (text_edit place from to new) outcome
     by None none = (refused no_such_place, no_node place from to new none)
@@ -220,7 +221,7 @@ has_an_outcome bytes items (text_edit place from to new) plain = by (path_of ite
         at_item (leaf_item pi_item text) at = (refused wrong_kind, no_text place from to new path (leaf_item pi_item text) at refl)
         at_item (leaf_item gap text) at = (refused wrong_kind, no_text place from to new path (leaf_item gap text) at refl)
         at_item (leaf_item text_item text) at =
-            let (characters, has) = has_chars text (text_at items path text at.there plain.plain) in
+            let (characters, has) = has_chars text (document_text_at items path text at.there ordered) in
             text_outcome items place from to new path (leaf_item text_item text) characters at has
 
 -- ---- the book
@@ -234,11 +235,3 @@ other_name root name bytes book other = by (pointwise nat_eq root name) refl
 
 pub other_files_stay : (root name : List ℕ) (book next : Book) (edit : Edit) → AcceptsIn root book edit next → name ≢ root → next name ≡ book name
 other_files_stay root name book next edit (bytes, items, others, opens, accepts, is) other = ap (λ (b : Book). b name) is ∙ other_name root name (source_text others) book other
-
--- ---- an accepted edit
-
-pub accepted_in_text : (items : Items) (place : List ℕ) (from to : ℕ) (new : List ℕ) (others : Items) → Accepts items (text_edit place from to new) others
-    → (path characters : List ℕ) × IsInText items place from to path characters × (list_all is_char new ≡ true) × (others ≡ edited items path characters from to new)
-accepted_in_text items place from to new others x =
-    let a = accepted_is items place from to new others x in
-    (a.path, a.characters, a.inside, a.are, a.is)

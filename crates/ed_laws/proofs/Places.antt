@@ -1,10 +1,8 @@
--- A place leads to an item, one number after the other; and a text at a path of plain items holds no CDATA section.
-use Rattle.std.proofs.Common.{◌≡◌, ◌∙◌, ℕ, zero, suc, ◌-◌, List, [], ◌∷◌, refl, sym, ap, subst, arith, Option, Some, None, option_map}
-use Rattle.xt_spec.specs.Tree.{Items, nil, element, leaf, Item, element_item, leaf_item, text_item, reference_item, comment_item, pi_item, gap}
-use Rattle.xt_spec.specs.PlainText.{IsPlainText}
-use Rattle.xt_spec.specs.Plain.{IsPlainItems}
+-- A place leads to an item, one number after the other.
+use Rattle.std.proofs.Common.{◌≡◌, ◌∙◌, ℕ, zero, suc, ◌-◌, List, [], ◌∷◌, refl, sym, ap, arith, Option, Some, None, option_map, Bool, true, false, if◌then◌else◌}
+use Rattle.xt_spec.specs.Tree.{Items, nil, element, leaf, Item, element_item, leaf_item}
 use Rattle.xt_spec.specs.Paths.{item_in, item_at}
-use Rattle.ed_spec.specs.Place.{index_of, content_of, step_along, path_along, path_of}
+use Rattle.ed_spec.specs.Place.{gives_node, child_index, index_of, content_of, step_along, path_along, path_of}
 
 -- ---- indices and paths, found or not
 
@@ -41,6 +39,25 @@ one_step (Some other) others index path is = by (others other) refl is
         let paths : rest ≡ path = cc in
         (ap Some same, ap others (sym same) ∙ found ∙ ap Some paths)
 
+-- ---- which number an item behind another has
+
+-- behind an item that gives a node the number is one less
+pub behind_node : (rest : Items) (number index : ℕ) → child_index number (index_of rest (number - 1)) ≡ Some (suc index) → (n : ℕ) × (number ≡ suc (suc n)) × (index_of rest (suc n) ≡ Some index)
+behind_node rest zero index at = absurd (cc)
+behind_node rest (suc zero) index at = absurd (cc)
+behind_node rest (suc (suc n)) index at = (n, refl, number_less rest n index at)
+
+-- .. so the item that gives it is the first one where the number is 1
+pub first_node : (rest : Items) (number : ℕ) → child_index number (index_of rest (number - 1)) ≡ Some zero → number ≡ 1
+first_node rest zero at = absurd (cc)
+first_node rest (suc zero) at = refl
+first_node rest (suc (suc n)) at = absurd (no_first (index_of rest (suc (suc n) - 1)) at)
+
+-- a number further on, behind a leaf
+behind_leaf : (gives : Bool) (rest : Items) (number index : ℕ) → (if gives then child_index number (index_of rest (number - 1)) else option_map suc (index_of rest number)) ≡ Some (suc index) → (n : ℕ) × (index_of rest n ≡ Some index)
+behind_leaf true rest number index at = let (n, is, there) = behind_node rest number index at in (suc n, there)
+behind_leaf false rest number index at = (number, one_less (index_of rest number) index at)
+
 -- ---- a place leads to an item
 
 leads_in : (items : Items) (number : ℕ) (place : List ℕ) (index : ℕ) (path : List ℕ) → index_of items number ≡ Some index → path_along (content_of items index) place ≡ Some path → (item : Item) × (item_in items index path ≡ Some item)
@@ -51,27 +68,18 @@ leads_in (leaf kind text rest) number place zero path at along = leaf_leads plac
     leaf_leads [] [] along = (leaf_item kind text, refl)
     leaf_leads [] (n ∷ path) along = absurd (cc)
     leaf_leads (n ∷ place) path along = absurd (cc)
-leads_in (leaf text_item text rest) zero place (suc index) path at along = absurd (cc)
-leads_in (leaf text_item text rest) (suc zero) place (suc index) path at along = absurd (cc)
-leads_in (leaf text_item text rest) (suc (suc number)) place (suc index) path at along = leads_in rest (suc number) place index path (number_less rest number index at) along
-leads_in (leaf comment_item text rest) zero place (suc index) path at along = absurd (cc)
-leads_in (leaf comment_item text rest) (suc zero) place (suc index) path at along = absurd (cc)
-leads_in (leaf comment_item text rest) (suc (suc number)) place (suc index) path at along = leads_in rest (suc number) place index path (number_less rest number index at) along
-leads_in (leaf pi_item text rest) zero place (suc index) path at along = absurd (cc)
-leads_in (leaf pi_item text rest) (suc zero) place (suc index) path at along = absurd (cc)
-leads_in (leaf pi_item text rest) (suc (suc number)) place (suc index) path at along = leads_in rest (suc number) place index path (number_less rest number index at) along
-leads_in (leaf reference_item text rest) number place (suc index) path at along = leads_in rest number place index path (one_less (index_of rest number) index at) along
-leads_in (leaf gap text rest) number place (suc index) path at along = leads_in rest number place index path (one_less (index_of rest number) index at) along
-leads_in (element open_tag kids close rest) zero place index path at along = absurd (cc)
-leads_in (element open_tag kids close rest) (suc zero) place (suc index) path at along = absurd (cc)
-leads_in (element open_tag kids close rest) (suc zero) [] zero [] at along = (element_item open_tag kids close, refl)
-leads_in (element open_tag kids close rest) (suc zero) [] zero (n ∷ path) at along = absurd (cc)
-leads_in (element open_tag kids close rest) (suc zero) (next ∷ place) zero [] at along = absurd (no_end (index_of kids next) (λ i. path_along (content_of kids i) place) along)
-leads_in (element open_tag kids close rest) (suc zero) (next ∷ place) zero (n ∷ path) at along =
+leads_in (leaf kind text rest) number place (suc index) path at along =
+    let (n, there) = behind_leaf (gives_node kind text) rest number index at in
+    leads_in rest n place index path there along
+leads_in (element open_tag kids close rest) number [] zero [] at along = (element_item open_tag kids close, refl)
+leads_in (element open_tag kids close rest) number [] zero (n ∷ path) at along = absurd (cc)
+leads_in (element open_tag kids close rest) number (next ∷ place) zero [] at along = absurd (no_end (index_of kids next) (λ i. path_along (content_of kids i) place) along)
+leads_in (element open_tag kids close rest) number (next ∷ place) zero (n ∷ path) at along =
     let step = one_step (index_of kids next) (λ i. path_along (content_of kids i) place) n path along in
     leads_in kids next place n path step.0 step.1
-leads_in (element open_tag kids close rest) (suc (suc number)) place zero path at along = absurd (no_first (index_of rest (suc (suc number) - 1)) at)
-leads_in (element open_tag kids close rest) (suc (suc number)) place (suc index) path at along = leads_in rest (suc number) place index path (number_less rest number index at) along
+leads_in (element open_tag kids close rest) number place (suc index) path at along =
+    let (n, is, there) = behind_node rest number index at in
+    leads_in rest (suc n) place index path there along
 
 pub place_leads : (items : Items) (place path : List ℕ) → path_of items place ≡ Some path → (item : Item) × (item_at items path ≡ Some item)
 place_leads items [] path is = absurd (cc)
@@ -79,24 +87,3 @@ place_leads items (number ∷ place) [] is = absurd (no_end (index_of items numb
 place_leads items (number ∷ place) (index ∷ path) is =
     let step = one_step (index_of items number) (λ i. path_along (content_of items i) place) index path is in
     leads_in items number place index path step.0 step.1
-
--- ---- a text that stands in plain items is a text item without CDATA sections
-
-text_in : (items : Items) (index : ℕ) (path text : List ℕ) → item_in items index path ≡ Some (leaf_item text_item text) → IsPlainItems items → IsPlainText text
-text_in nil index path text is plain = absurd (cc)
-text_in (element open_tag kids close rest) zero [] text is plain = absurd (cc)
-text_in (element open_tag kids close rest) zero (next ∷ path) text is plain = text_in kids next path text is plain.1
-text_in (element open_tag kids close rest) (suc index) path text is plain = text_in rest index path text is plain.2
-text_in (leaf text_item other rest) zero [] text is plain = let same : other ≡ text = cc in subst IsPlainText same plain.0
-text_in (leaf text_item other rest) zero (next ∷ path) text is plain = absurd (cc)
-text_in (leaf text_item other rest) (suc index) path text is plain = text_in rest index path text is plain.1
-text_in (leaf gap other rest) zero [] text is plain = absurd (cc)
-text_in (leaf gap other rest) zero (next ∷ path) text is plain = absurd (cc)
-text_in (leaf gap other rest) (suc index) path text is plain = text_in rest index path text is plain.1
-text_in (leaf reference_item other rest) index path text is plain = absurd plain
-text_in (leaf comment_item other rest) index path text is plain = absurd plain
-text_in (leaf pi_item other rest) index path text is plain = absurd plain
-
-pub text_at : (items : Items) (path text : List ℕ) → item_at items path ≡ Some (leaf_item text_item text) → IsPlainItems items → IsPlainText text
-text_at items [] text is plain = absurd (cc)
-text_at items (index ∷ path) text is plain = text_in items index path text is plain

@@ -13,10 +13,10 @@ use Rattle.ed_laws.proofs.Outcomes.{some_same, one_refusal, not_both, one_accept
 
 -- ---- a book opens in one way, so an edit has one outcome in it
 
-opens_once : (root : List ℕ) (book : Book) (a b : List ℕ) (i j : Items) → Opens root book a i → Opens root book b j → i ≡ j
+pub opens_once : (root : List ℕ) (book : Book) (a b : List ℕ) (i j : Items) → Opens root book a i → Opens root book b j → i ≡ j
 opens_once root book a b i j x y =
     let same : a ≡ b = some_same (book root) a b x.found y.found in
-    one_tree b i j (subst (λ t. IsReading document t i) same x.plain.reading) y.plain.reading
+    one_tree b i j (subst (λ t. IsReading document t i) same x.opens.reading) y.opens.reading
 
 pub one_refusal_in : (root : List ℕ) (book : Book) (e : Edit) (r q : Refusal) → RefusesIn root book e r → RefusesIn root book e q → r ≡ q
 one_refusal_in root book e r q (a, i, opens, x) (b, j, also, y) = one_refusal j e r q (subst (λ (items : Items). Refuses items e r) (opens_once root book a b i j opens also) x) y

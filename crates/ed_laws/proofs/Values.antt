@@ -1,8 +1,8 @@
--- The value of a text item: it has one at most, and is spelled by Chars.
-use Rattle.std.proofs.Common.{◌≡◌, ◌≢◌, ◌∙◌, ℕ, ◌<◌, ◌≤◌, ◌⊎◌, List, [], ◌∷◌, ◌++◌, length, take, drop, get_or, refl, sym, ap, ap₂, subst, arith, true, false, Bool, not, ◌&&◌, ◌==◌, if◌then◌else◌, inl, inr, append-nil, encode_utf8, encode_utf8_all, eqb-true}
+-- The value of a text item: it has one, and is spelled by Chars.
+use Rattle.std.proofs.Common.{◌≡◌, ◌≢◌, ◌∙◌, ℕ, ◌<◌, ◌≤◌, ◌⊎◌, List, [], ◌∷◌, ◌++◌, length, take, drop, get_or, refl, sym, ap, ap₂, subst, arith, true, false, Bool, not, ◌&&◌, ◌==◌, if◌then◌else◌, inl, inr, append-nil, encode_utf8, encode_utf8_all, eqb-true, codes}
 use Rattle.std.proofs.lemmas.Bool.{and_parts, and_from, cases_Bool, cases_lt}
 use Rattle.std.proofs.lemmas.Bool.Decides.{nat_tests}
-use Rattle.std.proofs.lemmas.List.{length-append, take_at, append_cancel_left, take-append-drop}
+use Rattle.std.proofs.lemmas.List.{length-append, take_at, append_cancel_left, append_cancel_right, take-append-drop}
 use Rattle.std.proofs.lemmas.List.Folds.{list_all-append}
 use Rattle.std.proofs.lemmas.List.Sums.{list_all-from_AllPass}
 use Rattle.std.proofs.lemmas.List.Elements.{All-from_get_or}
@@ -10,8 +10,10 @@ use Rattle.std.proofs.lemmas.Str.{encode_ascii, encodes-append, encodes_same, in
 use Rattle.std.specs.List.{list_all, AllByRecursion}
 use Rattle.xt_spec.specs.Char.{is_char}
 use Rattle.xt_spec.specs.Reference.{StandsFor}
-use Rattle.xt_spec.specs.Token.{TokenKind, char_data, char_ref, entity_ref, IsPlain, IsLongestFront}
-use Rattle.xt_spec.specs.PlainText.{PlainPart, data_part, reference_part, part_text, parts_text, parts_value, begins_with_data, ArePlainParts, IsPlainText, HasTextValue, lines_read, lines_read_behind}
+use Rattle.xt_spec.specs.LineEnds.{lines_read, lines_read_behind}
+use Rattle.xt_spec.specs.Markup.{IsSectionOf}
+use Rattle.xt_spec.specs.Token.{TokenKind, char_data, char_ref, entity_ref, cdata_section, IsPlain, IsLongestFront}
+use Rattle.xt_spec.specs.Text.{TextPart, data_part, reference_part, section_part, part_text, parts_text, parts_value, begins_with_data, AreTextParts, IsTextItem, HasTextValue}
 use Rattle.xt_lex.specs.Place.{Follows}
 use Rattle.xt_lex.proofs.Fronts.{delimited_begins}
 use Rattle.xt_lex.proofs.Theorems.{front_some, token_longest, stands_unique, stands_spells}
@@ -55,7 +57,7 @@ some_read cr (b ∷ bytes) rest some are =
     let both = and_parts (is_no_line_end b) (list_all is_no_line_end bytes) are in
     rw (no_cr b both.0) (rw (no_lf b both.0) (ap (λ (l : List ℕ). b ∷ l) (others_read bytes rest both.1)))
 
-encode_some : (c : ℕ) → encode_utf8 c ≢ []
+pub encode_some : (c : ℕ) → encode_utf8 c ≢ []
 encode_some c none = let size = ap length none in absurd (omega (arith, length-encode c, (len_utf8_bounds c).0))
 
 -- line ends are read of the characters as of their bytes
@@ -115,7 +117,7 @@ all_cut n xs are =
     and_parts (list_all is_char (take n xs)) (list_all is_char (drop n xs)) (sym (list_all-append is_char (take n xs) (drop n xs)) ∙ ap (λ (l : List ℕ). list_all is_char l) (take-append-drop n xs) ∙ are)
 
 -- the value of the parts is spelled by Chars
-parts_chars : (parts : List PlainPart) → ArePlainParts parts → (cs : List ℕ) × (list_all is_char cs ≡ true) × (encode_utf8_all cs ≡ parts_value parts)
+parts_chars : (parts : List TextPart) → AreTextParts parts → (cs : List ℕ) × (list_all is_char cs ≡ true) × (encode_utf8_all cs ≡ parts_value parts)
 parts_chars [] are = ([], refl, refl)
 parts_chars (data_part text ∷ parts) are =
     let rest = parts_chars parts are.2 in
@@ -127,6 +129,13 @@ parts_chars (data_part text ∷ parts) are =
 parts_chars (reference_part text c ∷ parts) are =
     let rest = parts_chars parts are.1 in
     (c ∷ rest.0, and_from (is_char c) (list_all is_char rest.0) (stands_is_char text c are.0) rest.1, ap (λ (l : List ℕ). encode_utf8 c ++ l) rest.2)
+parts_chars (section_part text content ∷ parts) are =
+    let rest = parts_chars parts are.1 in
+    let (cs, spelled, all) = are.0.0 in (
+      lines_read cs ++ rest.0,
+      all_joined (lines_read cs) rest.0 (lines_are_chars false cs all) rest.1,
+      encodes-append (lines_read cs) rest.0 ∙ ap₂ (λ (x y : List ℕ). x ++ y) (sym (ap lines_read (sym spelled) ∙ lines_chars false cs)) rest.2,
+    )
 
 -- the characters of a text item's value are Chars
 pub value_chars : (text characters : List ℕ) → HasTextValue text (encode_utf8_all characters) → list_all is_char characters ≡ true
@@ -135,15 +144,16 @@ value_chars text characters (parts, are, spell, is) =
     subst (λ (l : List ℕ). list_all is_char l ≡ true) (encodes_same found.0 characters (found.2 ∙ is)) found.1
 
 -- a text item has a value
-pub has_chars : (text : List ℕ) → IsPlainText text → (characters : List ℕ) × HasTextValue text (encode_utf8_all characters)
+pub has_chars : (text : List ℕ) → IsTextItem text → (characters : List ℕ) × HasTextValue text (encode_utf8_all characters)
 has_chars text (parts, are, some, spell) = let found = parts_chars parts are in (found.0, (parts, are, spell, sym found.2))
 
 -- ---- one value
 
 -- the token that a part is
-abbrev MayBe : PlainPart → TokenKind → Type 0
+abbrev MayBe : TextPart → TokenKind → Type 0
 MayBe (data_part text) kind = kind ≡ char_data
 MayBe (reference_part text c) kind = (kind ≡ char_ref) ⊎ (kind ≡ entity_ref)
+MayBe (section_part text content) kind = kind ≡ cdata_section
 
 reference_follows : (text rest : List ℕ) (c : ℕ) → StandsFor text c → Follows (text ++ rest)
 reference_follows text rest c stands = elim (stands_spells text c stands) [
@@ -154,18 +164,24 @@ reference_follows text rest c stands = elim (stands_spells text c stands) [
     begins : (b : ℕ) (more : List ℕ) → text ≡ b ∷ more → (b ≡ 0x3C) ⊎ (b ≡ 0x26) → Follows (text ++ rest)
     begins b more is ends = rw is ends
 
-parts_follow : (parts : List PlainPart) → ArePlainParts parts → begins_with_data parts ≡ false → Follows (parts_text parts)
+section_follows : (text rest content : List ℕ) → IsSectionOf text content → Follows (text ++ rest)
+section_follows text rest content section = rw section.2 (inl refl)
+
+parts_follow : (parts : List TextPart) → AreTextParts parts → begins_with_data parts ≡ false → Follows (parts_text parts)
 parts_follow [] are apart = tt
 parts_follow (data_part text ∷ parts) are apart = absurd (cc)
 parts_follow (reference_part text c ∷ parts) are apart = reference_follows text (parts_text parts) c are.0
+parts_follow (section_part text content ∷ parts) are apart = section_follows text (parts_text parts) content are.0
 
-front_token : (part : PlainPart) (parts : List PlainPart) → ArePlainParts (part ∷ parts)
+front_token : (part : TextPart) (parts : List TextPart) → AreTextParts (part ∷ parts)
     → (kind : TokenKind) × MayBe part kind × IsLongestFront (part_text part ++ parts_text parts) kind (length (part_text part))
 front_token (data_part text) parts are = (char_data, refl, token_longest char_data text (parts_text parts) are.0 (λ _. parts_follow parts are.2 are.1))
 front_token (reference_part text c) parts are = elim (stands_spells text c are.0) [
   | inl spells ↦ (char_ref, inl refl, token_longest char_ref text (parts_text parts) spells (λ is. absurd (cc)))
   | inr spells ↦ (entity_ref, inr refl, token_longest entity_ref text (parts_text parts) spells (λ is. absurd (cc)))
 ]
+front_token (section_part text content) parts are =
+    (cdata_section, refl, token_longest cdata_section text (parts_text parts) (content, are.0.0, are.0.1, are.0.2) (λ is. absurd (cc)))
 
 -- the longest tokens of equal texts are one
 fronts_same : (t r u s : List ℕ) (k l : TokenKind) → IsLongestFront (t ++ r) k (length t) → IsLongestFront (u ++ s) l (length u) → t ++ r ≡ u ++ s → (k ≡ l) × (t ≡ u) × (r ≡ s)
@@ -177,43 +193,51 @@ fronts_same t r u s k l a b same =
     let text : t ≡ u = sym (take_at t r (length t) refl) ∙ ap (λ (x : List ℕ). take (length t) x) same ∙ take_at u s (length t) (sym size) in
     (two.0, text, append_cancel_left t r s (same ∙ ap (λ (x : List ℕ). x ++ s) (sym text)))
 
-no_part : (part : PlainPart) (parts : List PlainPart) → ArePlainParts (part ∷ parts) → [] ≡ part_text part ++ parts_text parts → ⊥
+no_part : (part : TextPart) (parts : List TextPart) → AreTextParts (part ∷ parts) → [] ≡ part_text part ++ parts_text parts → ⊥
 no_part part parts are same =
     let front = front_token part parts are in
     let some = front_some (part_text part ++ parts_text parts) front.0 (length (part_text part)) front.2.front in
     let size = ap length same in
     absurd (omega (arith, some, size, length-append (part_text part) (parts_text parts)))
 
-apart : (kind : TokenKind) → kind ≡ char_data → (kind ≡ char_ref) ⊎ (kind ≡ entity_ref) → ⊥
-apart kind is (inl other) = absurd (cc)
-apart kind is (inr other) = absurd (cc)
+section_unique : (text a b : List ℕ) → IsSectionOf text a → IsSectionOf text b → a ≡ b
+section_unique text a b x y =
+    append_cancel_left (codes "<![CDATA[") a b (append_cancel_right (codes "<![CDATA[" ++ a) (codes "<![CDATA[" ++ b) (codes "]]>") (sym x.2 ∙ y.2))
+
+-- a part is told by its text and by its token
+one_part : (p q : TextPart) (a b : List TextPart) (kind : TokenKind) → AreTextParts (p ∷ a) → AreTextParts (q ∷ b) → MayBe p kind → MayBe q kind → part_text p ≡ part_text q → p ≡ q
+one_part (data_part t) (data_part u) a b kind x y is also same = ap data_part same
+one_part (data_part t) (reference_part u d) a b kind x y is (inl also) same = absurd (cc)
+one_part (data_part t) (reference_part u d) a b kind x y is (inr also) same = absurd (cc)
+one_part (data_part t) (section_part u d) a b kind x y is also same = absurd (cc)
+one_part (reference_part t c) (data_part u) a b kind x y (inl is) also same = absurd (cc)
+one_part (reference_part t c) (data_part u) a b kind x y (inr is) also same = absurd (cc)
+one_part (reference_part t c) (reference_part u d) a b kind x y is also same =
+    ap₂ reference_part same (stands_unique u c d (subst (λ (v : List ℕ). StandsFor v c) same x.0) y.0)
+one_part (reference_part t c) (section_part u d) a b kind x y (inl is) also same = absurd (cc)
+one_part (reference_part t c) (section_part u d) a b kind x y (inr is) also same = absurd (cc)
+one_part (section_part t c) (data_part u) a b kind x y is also same = absurd (cc)
+one_part (section_part t c) (reference_part u d) a b kind x y is (inl also) same = absurd (cc)
+one_part (section_part t c) (reference_part u d) a b kind x y is (inr also) same = absurd (cc)
+one_part (section_part t c) (section_part u d) a b kind x y is also same =
+    ap₂ section_part same (section_unique u c d (subst (λ (v : List ℕ). IsSectionOf v c) same x.0) y.0)
+
+behind_part : (part : TextPart) (parts : List TextPart) → AreTextParts (part ∷ parts) → AreTextParts parts
+behind_part (data_part text) parts are = are.2
+behind_part (reference_part text c) parts are = are.1
+behind_part (section_part text content) parts are = are.1
 
 -- a text is spelled by parts in one way
-parts_same : (a b : List PlainPart) → ArePlainParts a → ArePlainParts b → parts_text a ≡ parts_text b → a ≡ b
+parts_same : (a b : List TextPart) → AreTextParts a → AreTextParts b → parts_text a ≡ parts_text b → a ≡ b
 parts_same [] [] x y same = refl
 parts_same [] (part ∷ parts) x y same = absurd (no_part part parts y same)
 parts_same (part ∷ parts) [] x y same = absurd (no_part part parts x (sym same))
-parts_same (data_part t ∷ a) (data_part u ∷ b) x y same =
-    let left = front_token (data_part t) a x in
-    let right = front_token (data_part u) b y in
-    let fronts = fronts_same t (parts_text a) u (parts_text b) left.0 right.0 left.2 right.2 same in
-    ap₂ (λ (v : List ℕ) (ps : List PlainPart). data_part v ∷ ps) fronts.1 (parts_same a b x.2 y.2 fronts.2)
-parts_same (data_part t ∷ a) (reference_part u d ∷ b) x y same =
-    let left = front_token (data_part t) a x in
-    let right = front_token (reference_part u d) b y in
-    let fronts = fronts_same t (parts_text a) u (parts_text b) left.0 right.0 left.2 right.2 same in
-    absurd (apart right.0 (sym fronts.0 ∙ left.1) right.1)
-parts_same (reference_part t c ∷ a) (data_part u ∷ b) x y same =
-    let left = front_token (reference_part t c) a x in
-    let right = front_token (data_part u) b y in
-    let fronts = fronts_same t (parts_text a) u (parts_text b) left.0 right.0 left.2 right.2 same in
-    absurd (apart left.0 (fronts.0 ∙ right.1) left.1)
-parts_same (reference_part t c ∷ a) (reference_part u d ∷ b) x y same =
-    let left = front_token (reference_part t c) a x in
-    let right = front_token (reference_part u d) b y in
-    let fronts = fronts_same t (parts_text a) u (parts_text b) left.0 right.0 left.2 right.2 same in
-    let char : c ≡ d = stands_unique u c d (subst (λ (v : List ℕ). StandsFor v c) fronts.1 x.0) y.0 in
-    ap₂ (λ (v : List ℕ) (ps : List PlainPart). reference_part v c ∷ ps) fronts.1 (parts_same a b x.1 y.1 fronts.2) ∙ ap (λ n. reference_part u n ∷ b) char
+parts_same (p ∷ a) (q ∷ b) x y same =
+    let left = front_token p a x in
+    let right = front_token q b y in
+    let fronts = fronts_same (part_text p) (parts_text a) (part_text q) (parts_text b) left.0 right.0 left.2 right.2 same in
+    ap₂ (λ (part : TextPart) (parts : List TextPart). part ∷ parts) (one_part p q a b right.0 x y (subst (MayBe p) fronts.0 left.1) right.1 fronts.1)
+    (parts_same a b (behind_part p a x) (behind_part q b y) fronts.2)
 
 -- a text item has one value
 pub one_value : (text a b : List ℕ) → HasTextValue text a → HasTextValue text b → a ≡ b

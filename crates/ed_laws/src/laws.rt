@@ -3,10 +3,10 @@
 ghost use Rattle.std.specs.Prelude.{◌≡◌, ◌≢◌, List, ℕ, true, encode_utf8_all};
 ghost use Rattle.std.specs.List.{list_all};
 ghost use Rattle.xt_spec.specs.Char.{is_char};
-ghost use Rattle.xt_spec.specs.Tree.{Items};
-ghost use Rattle.xt_spec.specs.Plain.{IsPlainDocument};
+ghost use Rattle.xt_spec.specs.Tree.{Items, source_text};
 ghost use Rattle.bk_spec.specs.Node.{Nodes};
-ghost use Rattle.bk_spec.specs.PlainNodes.{GivesNodes};
+ghost use Rattle.bk_spec.specs.DocumentNodes.{Context};
+ghost use Rattle.bk_spec.specs.Opening.{GivesNodes, IsOpen};
 ghost use Rattle.ed_spec.specs.Place.{text_set};
 ghost use Rattle.ed_spec.specs.Book.{Book};
 ghost use Rattle.ed_spec.specs.Edit.{Edit, text_edit, IsInText, range_replaced, edited, Accepts, AcceptsIn};
@@ -16,13 +16,24 @@ ghost use Rattle.ed_laws.specs.Outcome.{Outcome, HasOutcome};
 /// An edit of a text gives the text at the place its new value, and the other nodes stay; a text whose new value is empty
 /// goes. `law` says so of each tree that the edit may make, `value` of an edit that is accepted.
 pub fn edit_changes_the_node()
-    ensures law { (file uri : List ℕ) (items : Items) (nodes : Nodes) (place : List ℕ) (from to : ℕ) (new path characters : List ℕ)
-        → GivesNodes file uri items nodes → IsInText items place from to path characters → list_all is_char new ≡ true
-        → GivesNodes file uri (edited items path characters from to new) (text_set nodes place (encode_utf8_all (range_replaced characters from to new))) }
-    ensures value { (file uri : List ℕ) (items others : Items) (nodes : Nodes) (place : List ℕ) (from to : ℕ) (new : List ℕ)
-        → GivesNodes file uri items nodes → Accepts items (text_edit place from to new) others
+    ensures law { (file : List ℕ) (context : Context) (count : ℕ) (items : Items) (nodes : Nodes) (place : List ℕ) (from to : ℕ) (new path characters : List ℕ)
+        → GivesNodes file context count items nodes → IsInText items place from to path characters → list_all is_char new ≡ true
+        → GivesNodes file context count (edited items path characters from to new) (text_set nodes place (encode_utf8_all (range_replaced characters from to new))) }
+    ensures value { (file : List ℕ) (context : Context) (count : ℕ) (items others : Items) (nodes : Nodes) (place : List ℕ) (from to : ℕ) (new : List ℕ)
+        → GivesNodes file context count items nodes → Accepts items (text_edit place from to new) others
         → (path characters : List ℕ) × IsInText items place from to path characters
-        × GivesNodes file uri others (text_set nodes place (encode_utf8_all (range_replaced characters from to new))) }
+        × GivesNodes file context count others (text_set nodes place (encode_utf8_all (range_replaced characters from to new))) }
+{}
+
+/// A document in which an edit is accepted opens afterwards too; `value` says with which nodes: the text at the place has
+/// its new value, and the others stay.
+pub fn an_edited_document_opens()
+    ensures law { (file bytes : List ℕ) (items others : Items) (nodes : Nodes) (edit : Edit)
+        → IsOpen file bytes items nodes → Accepts items edit others → (next : Nodes) × IsOpen file (source_text others) others next }
+    ensures value { (file bytes : List ℕ) (items others : Items) (nodes : Nodes) (place : List ℕ) (from to : ℕ) (new : List ℕ)
+        → IsOpen file bytes items nodes → Accepts items (text_edit place from to new) others
+        → (path characters : List ℕ) × IsInText items place from to path characters
+        × IsOpen file (source_text others) others (text_set nodes place (encode_utf8_all (range_replaced characters from to new))) }
 {}
 
 /// Over given items an edit has one outcome at most: it is refused for one reason, or gives one tree.
@@ -30,9 +41,9 @@ pub fn one_outcome()
     ensures law { (items : Items) (edit : Edit) (a b : Outcome) → HasOutcome items edit a → HasOutcome items edit b → a ≡ b }
 {}
 
-/// Over the items of a plain document each edit has an outcome.
+/// Over the items of a document that opens each edit has an outcome.
 pub fn an_edit_has_an_outcome()
-    ensures law { (bytes : List ℕ) (items : Items) (edit : Edit) → IsPlainDocument bytes items → (outcome : Outcome) × HasOutcome items edit outcome }
+    ensures law { (file bytes : List ℕ) (items : Items) (nodes : Nodes) (edit : Edit) → IsOpen file bytes items nodes → (outcome : Outcome) × HasOutcome items edit outcome }
 {}
 
 /// An accepted edit changes no file but the root.

@@ -15,7 +15,6 @@ use Rattle.std.specs.List.{list_all}
 use Rattle.std.specs.Str.{chars}
 use Rattle.xt_spec.specs.Char.{is_char}
 use Rattle.xt_spec.specs.Tree.{Items, Item, source_text}
-use Rattle.xt_spec.specs.Plain.{IsPlainDocument}
 use Rattle.xt_spec.specs.Paths.{item_at}
 use Rattle.ed_spec.specs.Place.{path_of}
 use Rattle.ed_spec.specs.Edit as spec
@@ -26,7 +25,7 @@ use Rattle.ed_session.specs.declared.refusal.Refusal.{Refusal}
 use Rattle.ed_session.specs.declared.refusal.Refusal.TheVariants.{NoSuchPlace, WrongKind, BadRange, BadText, TooLarge}
 use Rattle.ed_session.specs.declared.refusal.EditFault.{EditFault}
 use Rattle.ed_session.specs.declared.refusal.EditFault.TheVariants.{Refused, NoMemory}
-use Rattle.ed_session.specs.Kept.{Kept}
+use Rattle.ed_session.specs.Kept.{Kept, Opens}
 
 abbrev pub edit_of : Op → Edit
 edit_of (op.Text place from to value) = text_edit place from to (chars value)
@@ -83,20 +82,20 @@ IsRefusal items edit (Refused refusal) = Refuses items edit (refusal_of refusal)
 IsRefusal items edit NoMemory = Unit {0}
 
 -- the bytes of the root with the edit, where the items are its tree
-pub record IsEditOf (items : Items) (edit : Edit) (bytes : List ℕ) : Type 0 where
+pub record IsEditOf (root : List ℕ) (items : Items) (edit : Edit) (bytes : List ℕ) : Type 0 where
   pub others : Items
   pub accepts : Accepts items edit others
   pub bytes_are : bytes ≡ source_text others
-  pub plain : IsPlainDocument bytes others
+  pub opens : Opens root bytes others
 
 -- the root was refused so, or memory was wanting
-abbrev pub IsRefusedIn : List ℕ → Edit → EditFault → Type 0
-IsRefusedIn bytes edit fault = (items : Items) × IsPlainDocument bytes items × IsRefusal items edit fault
+abbrev pub IsRefusedIn : List ℕ → List ℕ → Edit → EditFault → Type 0
+IsRefusedIn root bytes edit fault = (items : Items) × Opens root bytes items × IsRefusal items edit fault
 
 -- the root has the bytes of the edit; what is saved stays
 pub record IsEdited (edit : Edit) (old new : Kept) : Type 0 where
   pub root : new.root ≡ old.root
   pub saved : new.saved ≡ old.saved
   pub items : Items
-  pub plain : IsPlainDocument old.bytes items
-  pub edited : IsEditOf items edit new.bytes
+  pub opens : Opens old.root old.bytes items
+  pub edited : IsEditOf old.root items edit new.bytes

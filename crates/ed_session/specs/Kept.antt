@@ -3,10 +3,15 @@
 --   Kept      the root's name, its bytes as edited, and as last saved
 --   saved_of  the bytes last saved, of what the code keeps of them
 --   kept      what contracts see of what the code keeps
---   IsOpen    the bytes are a plain document, whose items stand in their places
-use Rattle.std.specs.Prelude.{ℕ, ◌≤◌, List, length, Option, Some, None, Vec}
+--   Opens     the bytes open, and read as these items
+--   IsOpenRoot  .. whose tags and leaves stand in their places, and whose nodes are these where they are kept
+use Rattle.std.specs.Prelude.{ℕ, ◌≤◌, List, length, Option, Some, None, Vec, IfSome}
 use Rattle.std.specs.Global.{Global}
-use Rattle.xt_spec.specs.Plain.{IsPlainDocument}
+use Rattle.xt_spec.specs.Tree.{Items}
+use Rattle.bk_spec.specs.Node.{Nodes}
+use Rattle.bk_spec.specs.Opening.{IsOpen}
+use Rattle.bk_info.specs.declared.node.Node.{Node}
+use Rattle.bk_info.specs.Nodes.{nodes_in}
 use Rattle.xt_tree.specs.declared.source.Src.{Src}
 use Rattle.xt_tree.specs.Meaning.{items_in}
 use Rattle.xt_tree.specs.Places.{marks_of, AreInPlace}
@@ -24,8 +29,13 @@ saved_of (Some saved) bytes = saved.items
 abbrev pub kept : List ℕ → List ℕ → Option (Vec ℕ Global) → Kept
 kept root bytes saved = record { root = root; bytes = bytes; saved = saved_of saved bytes }
 
--- a file that a save may write
-pub record IsOpen (bytes : List ℕ) (items : List Src) (saved : Option (Vec ℕ Global)) : Type 0 where
-  pub plain : IsPlainDocument bytes (items_in bytes items)
+-- the file of these bytes opens, and reads as these items
+abbrev pub Opens : List ℕ → List ℕ → Items → Type 0
+Opens root bytes items = (nodes : Nodes) × IsOpen root bytes items nodes
+
+-- a file that a save may write, and its nodes where they are kept
+pub record IsOpenRoot (root bytes : List ℕ) (items : List Src) (nodes : Option (List Node)) (saved : Option (Vec ℕ Global)) : Type 0 where
+  pub opens : Opens root bytes (items_in bytes items)
+  pub nodes_are : IfSome nodes (λ ns. IsOpen root bytes (items_in bytes items) (nodes_in ns))
   pub place : AreInPlace bytes 0 (marks_of items) (length bytes)
   pub size : length (saved_of saved bytes) ≤ 4194304

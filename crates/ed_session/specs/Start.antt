@@ -3,16 +3,19 @@
 --   start_of_recover, start_of_desk  the fault that one of a recovery, or of the desk, is
 --   IsOver                           the session is over a root of these bytes
 --   IsStarted                        the book was recovered, and the session is over its root
---   IsNoDocument                     a file is there, and is no plain document
---   IsAbsent, IsNotPlain             the book was recovered, and its root is not there, or is no plain document
+--   IsRootFault                      why the root of a book does not open
+--   IsFaulty                         the book was recovered, and its root does not open
 --   FailsBy                          why there is no session
 --   size_of_got, file_steps          how many steps it takes to read a file: one a byte
 --   recovered_steps                  .. the root of the book that is recovered; none where there is no book
 --   HasRead                          the call did not end before the root was read
 --   TakesSteps                       so many steps at most, and exactly so many where this holds
-use Rattle.std.specs.Prelude.{◌≡◌, ◌≤◌, ◌+◌, ℕ, List, length, nat_le, if◌then◌else◌, Option, Some, None, Result, Ok, Err}
+use Rattle.std.specs.Prelude.{◌≡◌, ◌<◌, ◌≤◌, ◌+◌, ℕ, List, length, nat_le, if◌then◌else◌, Option, Some, None, Result, Ok, Err}
 use Rattle.xt_spec.specs.Tree.{Items}
-use Rattle.xt_spec.specs.Plain.{IsPlainDocument}
+use Rattle.bk_spec.specs.Fault.{Fault, missing, too_large}
+use Rattle.bk_info.specs.declared.fault.BookFault.{BookFault}
+use Rattle.bk_info.specs.Nodes.{fault_in}
+use Rattle.ent_doc.specs.Opening.{IsDocumentFault}
 use Rattle.bk_desk.specs.declared.desk_name.DeskName.TheVariants.{Book}
 use Rattle.bk_desk.specs.declared.desk.DeskErr.{DeskErr}
 use Rattle.bk_desk.specs.declared.desk.DeskErr.TheVariants as desk
@@ -25,7 +28,7 @@ use Rattle.jr_burst.specs.SavedFiles.{Files, recovered_files}
 use Rattle.jr_burst.specs.Recover.{IsRecovered, IsOnlySynced}
 use Rattle.ed_session.specs.declared.opening.StartFault.{StartFault}
 use Rattle.ed_session.specs.declared.opening.StartFault.TheVariants as start
-use Rattle.ed_session.specs.Kept.{Kept}
+use Rattle.ed_session.specs.Kept.{Kept, Opens}
 
 -- the faults of a recovery and of the desk
 abbrev pub start_of_recover : RecoverFault → StartFault
@@ -43,31 +46,27 @@ pub record IsOver (root : List ℕ) (file : Option (List ℕ)) (session : Kept) 
   pub found : file ≡ Some session.bytes
   pub saved : session.saved ≡ session.bytes
   pub items : Items
-  pub plain : IsPlainDocument session.bytes items
+  pub opens : Opens root session.bytes items
 
--- a file is there, and is no plain document
-pub record IsNoDocument (file : Option (List ℕ)) : Type 0 where
-  pub bytes : List ℕ
-  pub found : file ≡ Some bytes
-  pub never : (items : Items) → ¬ IsPlainDocument bytes items
+-- The root of a book does not open: it isn't there; it has more than 4,194,304 bytes; or its bytes have this first fault.
+pub data IsRootFault (root : List ℕ) (file : Option (List ℕ)) (fault : Fault) : Type 0 where
+  absent : file ≡ None → fault ≡ missing root → IsRootFault root file fault
+  longer : (bytes : List ℕ) → file ≡ Some bytes → 4194304 < length bytes → fault ≡ too_large root → IsRootFault root file fault
+  faulty : (bytes : List ℕ) → file ≡ Some bytes → length bytes ≤ 4194304 → IsDocumentFault root bytes fault → IsRootFault root file fault
 
 -- the session is over the root of the recovered book
 pub record IsStarted (root : List ℕ) (old new : DiskState) (session : Kept) : Type 0 where
   pub recovered : IsRecovered old new
   pub over : IsOver root (new.files (Book root)) session
 
-pub record IsAbsent (root : List ℕ) (old new : DiskState) : Type 0 where
+-- the book was recovered, and its root has this fault
+pub record IsFaulty (root : List ℕ) (old new : DiskState) (fault : BookFault) : Type 0 where
   pub recovered : IsRecovered old new
-  pub none : new.files (Book root) ≡ None
-
-pub record IsNotPlain (root : List ℕ) (old new : DiskState) : Type 0 where
-  pub recovered : IsRecovered old new
-  pub document : IsNoDocument (new.files (Book root))
+  pub cause : IsRootFault root (new.files (Book root)) (fault_in fault)
 
 -- why there is no session
 abbrev pub FailsBy : List ℕ → DiskState → DiskState → StartFault → Type 0
-FailsBy root old new start.Missing = IsAbsent root old new
-FailsBy root old new start.NotYet = IsNotPlain root old new
+FailsBy root old new (start.Book fault) = IsFaulty root old new fault
 FailsBy root old new start.Journal = (recovered_files old.files ≡ None) × IsOnlySynced old new
 FailsBy root old new start.Desk = Unit {0}
 FailsBy root old new start.NoMemory = Unit {0}
@@ -96,8 +95,7 @@ pub record TakesSteps (whole : Type 0) (steps earlier now : ℕ) : Type 0 where
 -- the call did not end before the root was read, or was found to be none
 abbrev pub HasRead : Result Kept StartFault → Type 0
 HasRead (Ok session) = Unit {0}
-HasRead (Err start.Missing) = Unit {0}
-HasRead (Err start.NotYet) = Unit {0}
+HasRead (Err (start.Book fault)) = Unit {0}
 HasRead (Err start.Desk) = ⊥
 HasRead (Err start.Journal) = ⊥
 HasRead (Err start.NoMemory) = ⊥

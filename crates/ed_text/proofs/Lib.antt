@@ -1,6 +1,8 @@
 mod Examples
+pub mod ContentLemmas
 pub mod PieceLemmas
 pub mod ReadingLemmas
+pub mod StandingLemmas
 pub mod TextEditLemmas
 pub mod TextPlaceLemmas
 pub mod Theorems

@@ -1,23 +1,24 @@
--- A document with another text reads as its tree with that text, and a plain one stays plain.
-use Rattle.std.proofs.Common.{◌≡◌, ◌∙◌, ◌≢◌, ℕ, ◌≤◌, List, [], ◌∷◌, ◌++◌, length, take, drop, refl, sym, ap, subst, arith, append-nil, Option, Some, None, Bool, true, false, not, ◌==◌, nat_eq, encode_utf8_all, IfSome, is_some}
-use Rattle.std.proofs.lemmas.Bool.{and_parts, and_from}
-use Rattle.std.proofs.lemmas.List.Folds.{list_all-append}
+-- A document with another text reads as its tree with that text, and gives its content with that text.
+use Rattle.std.proofs.Common.{◌≡◌, ◌∙◌, ◌≢◌, ℕ, List, [], ◌∷◌, ◌++◌, take, drop, refl, sym, ap, subst, append-nil, Option, Some, None, Bool, true, false, encode_utf8_all, IfSome, is_some}
 use Rattle.std.proofs.lemmas.Str.{encodes-chars}
-use Rattle.std.specs.List.{list_all, starts_with}
+use Rattle.std.specs.List.{list_all}
 use Rattle.std.specs.Str.{IsUtf8, chars}
 use Rattle.xt_spec.specs.Char.{is_char}
 use Rattle.xt_spec.specs.Tree.{Items, nil, leaf, leaf_item, text_item, source_text}
-use Rattle.xt_spec.specs.PlainText.{HasTextValue}
-use Rattle.xt_spec.specs.Reading.{before_doctype, mark, document, IsOrdered, IsReading}
-use Rattle.xt_read.proofs.Theorems.{reading_body}
-use Rattle.xt_spec.specs.Plain.{IsPlainDocument, IsPlainItems, node_count}
+use Rattle.xt_spec.specs.Text.{HasTextValue}
+use Rattle.xt_spec.specs.Content.{Content, HasContent}
+use Rattle.xt_spec.specs.Reading.{document, IsOrdered, IsReading}
+use Rattle.xt_read.proofs.Theorems.{one_tree}
 use Rattle.xt_spec.specs.Escape.{escape_text}
 use Rattle.xt_spec.specs.Paths.{item_in, item_at, replaced_in}
 use Rattle.ed_spec.specs.TextEdit.{text_written, text_as_it_is, text_items, text_edited}
-use Rattle.xt_escape.proofs.Theorems.{escape_is_text_item, escape_has_value, escape_has_no_cr, escape_is_utf8, chars_are_scalars}
+use Rattle.xt_escape.proofs.Theorems.{escape_is_text_item, escape_has_value, escape_is_utf8, chars_are_scalars}
 use Rattle.xt_lex.specs.declared.token.Span.{Span}
 use Rattle.xt_tree.specs.Spans.{IsClosed, Stands, IsItemSpan}
-use Rattle.ed_text.proofs.TextEditLemmas.{one_text, IsNew, document_kept, plain_kept, count_kept, document_text, no_mark, same_replaced, new_at}
+use Rattle.ed_text.proofs.TextEditLemmas.{one_text, IsNew, document_kept, document_text, same_replaced, new_at}
+use Rattle.ed_text.specs.EditedContent.{content_edited}
+use Rattle.ed_text.proofs.ContentLemmas.{edited_content}
+use Rattle.ed_text.proofs.StandingLemmas.{text_found}
 use Rattle.ed_text.proofs.Utf8Lemmas.{text_item_utf8, text_item_some, text_for_text}
 
 -- ---- the bytes that stand for a value
@@ -69,35 +70,13 @@ pub still_reads : (file : List ℕ) (items : Items) (path cs new : List ℕ) (fr
 still_reads file items [] cs new from to (text, is) stands written are reading = absurd cc
 still_reads file items (index ∷ path) cs new from to (text, is) stands written are reading = reads_in file items index path text cs new from to is stands written are reading
 
--- ---- plain documents
-
-no_cr_for : (front old new back : List ℕ) → list_all (λ b. not (b == 0xD)) (front ++ old ++ back) ≡ true → list_all (λ b. not (b == 0xD)) new ≡ true → list_all (λ b. not (b == 0xD)) (front ++ new ++ back) ≡ true
-no_cr_for front old new back whole new_is =
-    let p = λ (b : ℕ). not (b == 0xD) in
-    let outer = and_parts (list_all p (front ++ old)) (list_all p back) (sym (list_all-append p (front ++ old) back) ∙ whole) in
-    let inner = and_parts (list_all p front) (list_all p old) (sym (list_all-append p front old) ∙ outer.0) in
-    list_all-append p (front ++ new) back ∙ and_from (list_all p (front ++ new)) (list_all p back) (list_all-append p front new ∙ and_from (list_all p front) (list_all p new) inner.0 new_is) outer.1
-
-plain_in : (file : List ℕ) (items : Items) (index : ℕ) (path text cs new : List ℕ) (from to : ℕ) → item_in items index path ≡ Some (leaf_item text_item text) → Stands file items (index ∷ path) from to → new ≡ source_text (text_written cs)
-    → list_all is_char cs ≡ true → IsPlainDocument file items → length (take from file ++ new ++ drop to file) ≤ 4194304 → IsPlainDocument (take from file ++ new ++ drop to file) (replaced_in items index path (text_written cs))
-plain_in file items index path text cs new from to is stands written are plain size =
-    let reading = reads_in file items index path text cs new from to is stands written are plain.reading in
-    let around_is = around file items index path text from to is plain.reading.joined stands in
-    let others = replaced_in items index path (text_written cs) in
-    let plain_is : IsPlainItems others = subst (λ o. IsPlainItems (replaced_in items index path o)) (sym (written_is cs)) (plain_kept items index path (new_text cs) (is_new cs are) (text, is) plain.plain) in
-    record {
-      size = size;
-      unmarked = subst (λ t. starts_with nat_eq t mark ≡ false) reading.joined (no_mark before_doctype others refl (reading_body (source_text others) others (record { utf8 = subst IsUtf8 (sym reading.joined) reading.utf8; joined = refl; ordered = reading.ordered }) plain_is).0);
-      no_cr = no_cr_for (take from file) text new (drop to file) (subst (λ t. list_all (λ b. not (b == 0xD)) t ≡ true) (sym around_is) plain.no_cr) (subst (λ t. list_all (λ b. not (b == 0xD)) t ≡ true) (sym (written ∙ written_text cs)) (escape_has_no_cr cs));
-      reading = reading;
-      plain = plain_is;
-      nodes = subst (λ o. node_count (replaced_in items index path o) ≤ 1000000) (sym (written_is cs)) (omega (arith, count_kept items index path (new_text cs) (text, is), plain.nodes));
-    }
-
-pub still_plain : (file : List ℕ) (items : Items) (path cs new : List ℕ) (from to : ℕ) → (text : List ℕ) × (item_at items path ≡ Some (leaf_item text_item text)) → Stands file items path from to → new ≡ source_text (text_written cs)
-    → list_all is_char cs ≡ true → IsPlainDocument file items → length (take from file ++ new ++ drop to file) ≤ 4194304 → IsPlainDocument (take from file ++ new ++ drop to file) (text_edited false items path cs)
-still_plain file items [] cs new from to (text, is) stands written are plain size = absurd cc
-still_plain file items (index ∷ path) cs new from to (text, is) stands written are plain size = plain_in file items index path text cs new from to is stands written are plain size
+-- .. so the edited tree is the one that its bytes read as
+pub edited_reads : (file : List ℕ) (items : Items) (path text cs : List ℕ) → item_at items path ≡ Some (leaf_item text_item text) → list_all is_char cs ≡ true → IsReading document file items
+    → IsReading document (source_text (text_edited false items path cs)) (text_edited false items path cs)
+edited_reads file items path text cs is are reading =
+    let (from, to, stands) = text_found file items path text reading.joined is in
+    subst (λ (b : List ℕ). IsReading document b (text_edited false items path cs)) (sym (stands.replaced (text_written cs)))
+    (still_reads file items path cs (source_text (text_written cs)) from to (text, is) stands refl are reading)
 
 -- ---- the new item
 
@@ -135,9 +114,16 @@ pub facts_read : (file : List ℕ) (items : Items) (path cs : List ℕ) (plain :
     → list_all is_char cs ≡ true → IsReading document file items → IsReading document (take from file ++ new ++ drop to file) (text_edited false items path cs)
 facts_read file items path cs plain from to new facts escaped are reading = still_reads file items path cs new from to facts.present facts.stands (facts.written ∙ ap (λ p. source_text (text_items p cs)) escaped) are reading
 
-pub facts_plain : (file : List ℕ) (items : Items) (path cs : List ℕ) (plain : Bool) (from to : ℕ) (new : List ℕ) → PatchFacts file items path cs plain from to new → plain ≡ false
-    → list_all is_char cs ≡ true → IsPlainDocument file items → length (take from file ++ new ++ drop to file) ≤ 4194304 → IsPlainDocument (take from file ++ new ++ drop to file) (text_edited false items path cs)
-facts_plain file items path cs plain from to new facts escaped are is_plain size = still_plain file items path cs new from to facts.present facts.stands (facts.written ∙ ap (λ p. source_text (text_items p cs)) escaped) are is_plain size
+-- whatever the file with the patch reads as gives the edited content
+pub facts_content : (file : List ℕ) (items : Items) (path value : List ℕ) (plain : Bool) (from to : ℕ) (new : List ℕ) → PatchFacts file items path (chars value) plain from to new → IsUtf8 value → plain ≡ false
+    → list_all is_char (chars value) ≡ true → IsReading document file items → (content : Content) (others : Items) → HasContent items content → IsReading document (take from file ++ new ++ drop to file) others
+    → HasContent others (content_edited items path value content)
+facts_content file items path value plain from to new facts utf8 escaped are reading content others has also =
+    let read = facts_read file items path (chars value) plain from to new facts escaped are reading in
+    let (text, is) = facts.present in
+    let edited = edited_content items path text (chars value) content is are has in
+    subst (λ (i : Items). HasContent i (content_edited items path value content)) (one_tree (take from file ++ new ++ drop to file) (text_edited false items path (chars value)) others read also)
+    (subst (λ (v : List ℕ). HasContent (text_edited false items path (chars value)) (content_edited items path v content)) (encodes-chars value utf8) edited)
 
 pub is_there : (items : Items) (path : List ℕ) (found : Option Span) → (text : List ℕ) × (item_at items path ≡ Some (leaf_item text_item text)) → is_some found ≡ is_some (item_at items path) → is_some found ≡ true
 is_there items path found (text, is) same = same ∙ ap is_some is

@@ -1,7 +1,6 @@
 -- A text item in place of another, or nothing: what stays of a reading.
-use Rattle.std.proofs.Common.{◌≡◌, ◌∙◌, ℕ, zero, suc, ◌≤◌, List, [], ◌∷◌, refl, sym, ap, subst, arith, Option, Some, None, true, false, inl, inr, ◌++◌, ◌&&◌, nat_eq, eqb-true, take, codes, append_assoc}
-use Rattle.xt_spec.specs.Tree.{Items, nil, element, leaf, leaf_item, LeafKind, text_item, reference_item, comment_item, pi_item, gap, begins_with, source_text, close_text}
-use Rattle.xt_spec.specs.PlainText.{IsPlainText}
+use Rattle.std.proofs.Common.{◌≡◌, ◌∙◌, ℕ, zero, suc, List, [], ◌∷◌, refl, sym, ap, subst, Option, Some, None, true, false, inl, inr, ◌++◌, ◌&&◌, nat_eq, eqb-true, take, codes, append_assoc}
+use Rattle.xt_spec.specs.Tree.{Items, nil, element, leaf, leaf_item, text_item, reference_item, comment_item, pi_item, gap, begins_with, source_text, close_text}
 use Rattle.xt_spec.specs.Text.{IsTextItem}
 use Rattle.xt_spec.specs.Reading.{IsElementAt, IsContent, Stage, before_doctype, before_root, behind_root, is_before_root, begins_with_space, Leads, mark, IsDeclared, document, IsOrdered}
 use Rattle.xt_spec.specs.Declaration.{is_xml_declaration}
@@ -10,9 +9,7 @@ use Rattle.std.specs.List.{list_all, starts_with}
 use Rattle.std.proofs.lemmas.Bool.{and_parts, cases_Bool}
 use lib.Pointwise.{pointwise}
 use Rattle.xt_read.proofs.Theorems.{comment_begins, pi_begins, doctype_begins}
-use Rattle.ed_text.proofs.Utf8Lemmas.{plain_is_text}
-use Rattle.xt_spec.specs.Plain.{IsPlainItems, node_count}
-use Rattle.xt_spec.specs.Paths.{item_in, replaced_in}
+use Rattle.xt_spec.specs.Paths.{item_in, item_at, replaced_in}
 
 -- a text item of this text, or none
 abbrev pub one_text : Option (List ℕ) → Items
@@ -21,7 +18,7 @@ one_text (Some text) = leaf text_item text nil
 
 abbrev pub IsNew : Option (List ℕ) → Type 0
 IsNew None = Unit {0}
-IsNew (Some text) = IsPlainText text
+IsNew (Some text) = IsTextItem text
 
 -- the item at the index and path is a text item
 abbrev pub HoldsText : Items → ℕ → List ℕ → Type 0
@@ -62,7 +59,7 @@ content_kept level (element open_tag kids close rest) zero (next ∷ path) new i
     (element_kept level open_tag kids (replaced_in kids next path (one_text new)) close next path holds content.0, content_kept (suc level) kids next path new is_new holds content.1, content.2)
 content_kept level (element open_tag kids close rest) (suc index) path new is_new holds content = (content.0, content.1, content_kept level rest index path new is_new holds content.2)
 content_kept level (leaf text_item t rest) zero [] None is_new holds content = content.2
-content_kept level (leaf text_item t rest) zero [] (Some new) is_new holds content = (plain_is_text new is_new, content.1, content.2)
+content_kept level (leaf text_item t rest) zero [] (Some new) is_new holds content = (is_new, content.1, content.2)
 content_kept level (leaf text_item t rest) zero (next ∷ path) new is_new (text, is) content = absurd cc
 content_kept level (leaf text_item t rest) (suc index) path new is_new holds content = (content.0, begins_kept rest index path new holds content.1, content_kept level rest index path new is_new holds content.2)
 content_kept level (leaf reference_item t rest) zero [] new is_new (text, is) content = absurd cc
@@ -113,44 +110,6 @@ top_kept stage last (leaf pi_item t rest) zero (next ∷ path) new is_new (text,
 top_kept stage last (leaf pi_item t rest) (suc index) path new is_new holds top = (top.0, top_kept stage last rest index path new is_new holds top.1)
 top_kept stage last (leaf text_item t rest) index path new is_new holds top = absurd top
 top_kept stage last (leaf reference_item t rest) index path new is_new holds top = absurd top
-
-pub plain_kept : (items : Items) (index : ℕ) (path : List ℕ) (new : Option (List ℕ)) → IsNew new → HoldsText items index path → IsPlainItems items → IsPlainItems (replaced_in items index path (one_text new))
-plain_kept nil index path new is_new holds plain = tt
-plain_kept (element open_tag kids close rest) zero [] new is_new (text, is) plain = absurd cc
-plain_kept (element open_tag kids close rest) zero (next ∷ path) new is_new holds plain = (plain.0, plain_kept kids next path new is_new holds plain.1, plain.2)
-plain_kept (element open_tag kids close rest) (suc index) path new is_new holds plain = (plain.0, plain.1, plain_kept rest index path new is_new holds plain.2)
-plain_kept (leaf text_item t rest) zero [] None is_new holds plain = plain.1
-plain_kept (leaf text_item t rest) zero [] (Some new) is_new holds plain = (is_new, plain.1)
-plain_kept (leaf text_item t rest) zero (next ∷ path) new is_new holds plain = plain
-plain_kept (leaf text_item t rest) (suc index) path new is_new holds plain = (plain.0, plain_kept rest index path new is_new holds plain.1)
-plain_kept (leaf gap t rest) zero [] new is_new (text, is) plain = absurd cc
-plain_kept (leaf gap t rest) zero (next ∷ path) new is_new holds plain = plain
-plain_kept (leaf gap t rest) (suc index) path new is_new holds plain = (plain.0, plain_kept rest index path new is_new holds plain.1)
-plain_kept (leaf reference_item t rest) index path new is_new holds plain = absurd plain
-plain_kept (leaf comment_item t rest) index path new is_new holds plain = absurd plain
-plain_kept (leaf pi_item t rest) index path new is_new holds plain = absurd plain
-
-leaf_counts : (kind : LeafKind) (t : List ℕ) (rest others : Items) → node_count others ≤ node_count rest → node_count (leaf kind t others) ≤ node_count (leaf kind t rest)
-leaf_counts text_item t rest others less = omega (arith, less)
-leaf_counts reference_item t rest others less = omega (arith, less)
-leaf_counts comment_item t rest others less = omega (arith, less)
-leaf_counts pi_item t rest others less = omega (arith, less)
-leaf_counts gap t rest others less = omega (arith, less)
-
--- there are no more nodes than before
-pub count_kept : (items : Items) (index : ℕ) (path : List ℕ) (new : Option (List ℕ)) → HoldsText items index path → node_count (replaced_in items index path (one_text new)) ≤ node_count items
-count_kept nil index path new holds = omega arith
-count_kept (element open_tag kids close rest) zero [] new (text, is) = absurd cc
-count_kept (element open_tag kids close rest) zero (next ∷ path) new holds = omega (arith, count_kept kids next path new holds)
-count_kept (element open_tag kids close rest) (suc index) path new holds = omega (arith, count_kept rest index path new holds)
-count_kept (leaf text_item t rest) zero [] None holds = omega arith
-count_kept (leaf text_item t rest) zero [] (Some new) holds = omega arith
-count_kept (leaf reference_item t rest) zero [] new (text, is) = absurd cc
-count_kept (leaf comment_item t rest) zero [] new (text, is) = absurd cc
-count_kept (leaf pi_item t rest) zero [] new (text, is) = absurd cc
-count_kept (leaf gap t rest) zero [] new (text, is) = absurd cc
-count_kept (leaf kind t rest) zero (next ∷ path) new (text, is) = absurd cc
-count_kept (leaf kind t rest) (suc index) path new holds = leaf_counts kind t rest (replaced_in rest index path (one_text new)) (count_kept rest index path new holds)
 
 -- ---- the text that was there
 
@@ -275,6 +234,10 @@ document_text items index path text is (inl (rest, same, main)) = by index (subs
         gap_item [] there = absurd cc
         gap_item (next ∷ path) there = absurd cc
     by (suc i) there = declared_text rest i path text there main
+
+pub document_text_at : (items : Items) (path text : List ℕ) → item_at items path ≡ Some (leaf_item text_item text) → IsOrdered document items → IsTextItem text
+document_text_at items [] text is ordered = absurd cc
+document_text_at items (index ∷ path) text is ordered = document_text items index path text is ordered
 
 -- a text in its own place changes nothing
 pub same_replaced : (items : Items) (index : ℕ) (path text : List ℕ) → item_in items index path ≡ Some (leaf_item text_item text) → replaced_in items index path (leaf text_item text nil) ≡ items

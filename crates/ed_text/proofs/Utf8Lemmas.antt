@@ -5,9 +5,7 @@ use Rattle.std.proofs.lemmas.Str.{IsUtf8-append, IsUtf8-take, IsUtf8-drop, IsUtf
 use Rattle.std.specs.Str.{IsUtf8, IsCharBoundary}
 use Rattle.xt_spec.specs.Token.{TokenKind, char_data, char_ref, entity_ref, cdata_section, Spells}
 use Rattle.xt_spec.specs.Markup.{IsSectionOf}
-use Rattle.xt_spec.specs.Text.{TextPart, data_part, reference_part, section_part, part_text, parts_text, begins_with_data, AreTextParts, IsTextItem}
-use Rattle.xt_spec.specs.PlainText as plain
-use Rattle.xt_spec.specs.PlainText.{PlainPart, ArePlainParts, IsPlainText}
+use Rattle.xt_spec.specs.Text.{TextPart, data_part, reference_part, section_part, part_text, parts_text, AreTextParts, IsTextItem}
 use Rattle.xt_lex.proofs.Theorems.{token_longest, front_some, spells_utf8, stands_spells}
 
 token_some : (kind : TokenKind) (text : List ℕ) → Spells kind text → 0 < length text
@@ -36,38 +34,6 @@ text_item_utf8 text (parts, are, some, spell) = subst IsUtf8 spell (parts_utf8 p
 pub text_item_some : (text : List ℕ) → IsTextItem text → 0 < length text
 text_item_some text ([], are, some, spell) = absurd (some refl)
 text_item_some text (part ∷ parts, are, some, spell) = omega (arith, part_some part parts are, ap length spell, length-append (part_text part) (parts_text parts))
-
--- a text item without CDATA sections is one
-record IsAmong (parts : List PlainPart) : Type 0 where
-  all : List TextPart
-  are : AreTextParts all
-  joined : parts_text all ≡ plain.parts_text parts
-  begins : begins_with_data all ≡ plain.begins_with_data parts
-  none : all ≡ [] → parts ≡ []
-
-among : (parts : List PlainPart) → ArePlainParts parts → IsAmong parts
-among [] are = record { all = []; are = tt; joined = refl; begins = refl; none = λ e. refl }
-among (plain.data_part t ∷ parts) are =
-    let others = among parts are.2 in
-    record {
-      all = data_part t ∷ others.all;
-      are = (are.0, others.begins ∙ are.1, others.are);
-      joined = ap (λ l. t ++ l) others.joined;
-      begins = refl;
-      none = λ e. let h : ◌≡◌ {A = List TextPart} (data_part t ∷ others.all) [] = e in absurd (cc);
-    }
-among (plain.reference_part t c ∷ parts) are =
-    let others = among parts are.1 in
-    record {
-      all = reference_part t c ∷ others.all;
-      are = (are.0, others.are);
-      joined = ap (λ l. t ++ l) others.joined;
-      begins = refl;
-      none = λ e. let h : ◌≡◌ {A = List TextPart} (reference_part t c ∷ others.all) [] = e in absurd (cc);
-    }
-
-pub plain_is_text : (text : List ℕ) → IsPlainText text → IsTextItem text
-plain_is_text text (parts, are, some, spell) = let a = among parts are in (a.all, a.are, (λ e. some (a.none e)), a.joined ∙ spell)
 
 -- what stands behind characters in a text is text
 behind_chars : (cs back : List ℕ) → IsUtf8 (encode_utf8_all cs ++ back) → IsUtf8 back

@@ -11,7 +11,7 @@ use std::marker::Brand;
 use std::sync::ledger::{Blank, Ledger};
 use std::test::Fail;
 use xt_lex::{Span, Steps};
-use xt_read::read_plain;
+use xt_read::read_document;
 use xt_tree::{Src, splice};
 
 /// The file with this value at the path; as it is, where no text is there.
@@ -46,7 +46,7 @@ fn edited_over<L: Ledger>(
     requires some { L.parts ≡ 1 }
 {
     let mut steps = Steps::<L>::new(blank);
-    let items = read_plain(alloc, file, &mut steps)?;
+    let items = read_document(alloc, file, &mut steps)?;
     with_text(alloc, file, items.as_slice(), path, value.as_str(), false)
 }
 
@@ -85,6 +85,30 @@ fn a_text_has_a_new_value(rt: HostRuntime) -> Result<(), Fail> {
         ([0, 1].as_slice(), "new", file),
         ([0].as_slice(), "new", file),
         ([0, 3].as_slice(), "new", file),
+    ] {
+        let bytes = edited(rt.alloc(), file, path, value)?;
+        assert_eq!(rt; bytes.as_slice(), after.as_bytes(), "at {path:?} {value}");
+    }
+    Ok(())
+}
+
+#[test]
+fn a_whole_document_has_a_new_value(rt: HostRuntime) -> Result<(), Fail> {
+    let file =
+        "\u{FEFF}<?xml version='1.0'?>\r\n<!DOCTYPE a>\r\n<a>x<![CDATA[<y>]]>&#13;\r\nz<?p q?>w<!--c--></a>\r\n";
+    for (path, value, after) in [
+        (
+            [5, 0].as_slice(),
+            "a\r\nb",
+            "\u{FEFF}<?xml version='1.0'?>\r\n<!DOCTYPE a>\r\n<a>a&#13;\nb<?p q?>w<!--c--></a>\r\n",
+        ),
+        (
+            [5, 2].as_slice(),
+            "",
+            "\u{FEFF}<?xml version='1.0'?>\r\n<!DOCTYPE a>\r\n<a>x<![CDATA[<y>]]>&#13;\r\nz<?p q?><!--c--></a>\r\n",
+        ),
+        ([5, 3].as_slice(), "new", file),
+        ([2].as_slice(), "new", file),
     ] {
         let bytes = edited(rt.alloc(), file, path, value)?;
         assert_eq!(rt; bytes.as_slice(), after.as_bytes(), "at {path:?} {value}");

@@ -1,13 +1,13 @@
 //! The patch of a text.
 
-ghost use Rattle.std.specs.Prelude.{◌≡◌, ◌≢◌, ◌≤◌, List, [], Bool, false, true, Some, length, IfOk, IsTrue, ◌↔◌, ℕ};
+ghost use Rattle.std.specs.Prelude.{◌≡◌, ◌≢◌, List, [], Bool, false, true, Some, length, IfOk, IsTrue, ◌↔◌, ℕ};
 ghost use Rattle.std.specs.List.{list_all};
 ghost use Rattle.std.specs.Str.{chars};
 ghost use Rattle.xt_spec.specs.Char.{is_char};
-ghost use Rattle.xt_spec.specs.Tree.{source_text, leaf_item, text_item};
-ghost use Rattle.xt_spec.specs.PlainText.{HasTextValue};
+ghost use Rattle.xt_spec.specs.Tree.{Items, source_text, leaf_item, text_item};
+ghost use Rattle.xt_spec.specs.Text.{HasTextValue};
 ghost use Rattle.xt_spec.specs.Reading.{document, IsReading};
-ghost use Rattle.xt_spec.specs.Plain.{IsPlainDocument};
+ghost use Rattle.xt_spec.specs.Content.{Content, HasContent};
 ghost use Rattle.xt_spec.specs.Paths.{item_at};
 ghost use Rattle.ed_spec.specs.TextEdit.{text_items, text_edited};
 ghost use Rattle.xt_tree.specs.Meaning.{item_of, items_in};
@@ -15,6 +15,7 @@ ghost use Rattle.xt_tree.specs.Patches.{patched};
 ghost use Rattle.xt_tree.specs.Places.{marks_of, AreInPlace};
 ghost use Rattle.xt_tree.specs.Spans.{Stands};
 ghost use Rattle.ed_text.specs.TextPlace.{IsText, IsTextAt};
+ghost use Rattle.ed_text.specs.EditedContent.{content_edited};
 
 use std::alloc::{AllocError, Global};
 use xt_escape::escape_text;
@@ -72,7 +73,7 @@ pub fn text_patch(
     ensures exact { IfOk result (λ patch. patch.new.items ≡ source_text (text_items plain (chars value.now))) }
     ensures value { IfOk result (λ patch. patched file.now patch ≡ source_text (text_edited plain (items_in file.now items.now) path.now (chars value.now))) }
     ensures reads { plain ≡ false → list_all is_char (chars value.now) ≡ true → IsReading document file.now (items_in file.now items.now) → IfOk result (λ patch. IsReading document (patched file.now patch) (text_edited false (items_in file.now items.now) path.now (chars value.now))) }
-    ensures keeps { plain ≡ false → list_all is_char (chars value.now) ≡ true → IsPlainDocument file.now (items_in file.now items.now) → IfOk result (λ patch. length (patched file.now patch) ≤ 4194304 → IsPlainDocument (patched file.now patch) (text_edited false (items_in file.now items.now) path.now (chars value.now))) }
+    ensures keeps { plain ≡ false → list_all is_char (chars value.now) ≡ true → IsReading document file.now (items_in file.now items.now) → IfOk result (λ patch. (content : Content) (others : Items) → HasContent (items_in file.now items.now) content → IsReading document (patched file.now patch) others → HasContent others (content_edited (items_in file.now items.now) path.now value.now content)) }
     ensures reads_back { plain ≡ false → list_all is_char (chars value.now) ≡ true → value.now ≢ [] → IfOk result (λ patch. (item_at (text_edited false (items_in file.now items.now) path.now (chars value.now)) path.now ≡ Some (leaf_item text_item patch.new.items)) × HasTextValue patch.new.items value.now) }
 {
     let span = span_at(items, path).unwrap();

@@ -10,3 +10,6 @@ mod AroundLemmas
 mod DistinctLemmas
 mod AttributeLemmas
 mod OwnLemmas
+pub mod OpeningLemmas
+pub mod OnceLemmas
+pub mod Theorems

@@ -9,8 +9,11 @@ mod distinct;
 mod document;
 mod element;
 mod fault;
+mod inclusion;
+mod laws;
 mod leaf;
 mod names;
+mod opening;
 mod source;
 mod tag;
 mod tree;
@@ -18,3 +21,5 @@ mod work;
 
 pub use document::document_nodes;
 pub use fault::OpenFault;
+pub use laws::{a_document_opens_once, an_open_document_has_no_fault, one_document_fault};
+pub use opening::{Opened, open_document};

@@ -10,7 +10,8 @@ use Rattle.std.proofs.lemmas.Str.Pattern.{NoCharPasses-char}
 use Rattle.std.specs.List.{list_all, AllByRecursion}
 use Rattle.std.specs.Str.{NonePass}
 use Rattle.xt_spec.specs.Reference.{StandsFor}
-use Rattle.xt_spec.specs.PlainText.{PlainPart, data_part, reference_part, parts_text, parts_value, begins_with_data, ArePlainParts, lines_read}
+use Rattle.xt_spec.specs.LineEnds.{lines_read}
+use Rattle.xt_spec.specs.Text.{TextPart, data_part, reference_part, section_part, parts_text, parts_value, begins_with_data, AreTextParts}
 use Rattle.xt_spec.specs.Token.{Spells, char_data, IsPlain, HoldsNoClose}
 
 -- no byte is a CR
@@ -86,20 +87,22 @@ lines_same (b ∷ bytes) none =
 run_reads : (text : List ℕ) → IsRun text → lines_read text ≡ text
 run_reads text run = lines_same text (run_no_cr text run)
 
--- parts whose character data are runs, no two side by side
-abbrev pub AreRuns : List PlainPart → Type 0
+-- parts of character data, which are runs, no two side by side, and of references
+abbrev pub AreRuns : List TextPart → Type 0
 AreRuns [] = Unit {0}
 AreRuns (data_part text ∷ parts) = IsRun text × (begins_with_data parts ≡ false) × AreRuns parts
 AreRuns (reference_part text c ∷ parts) = StandsFor text c × AreRuns parts
+AreRuns (section_part text content ∷ parts) = ⊥
 
-pub runs_are_parts : (parts : List PlainPart) → AreRuns parts → ArePlainParts parts
+pub runs_are_parts : (parts : List TextPart) → AreRuns parts → AreTextParts parts
 runs_are_parts [] are = tt
 runs_are_parts (data_part text ∷ parts) are = (run_spells text are.0, are.1, runs_are_parts parts are.2)
 runs_are_parts (reference_part text c ∷ parts) are = (are.0, runs_are_parts parts are.1)
+runs_are_parts (section_part text content ∷ parts) are = absurd are
 
 -- such parts of what is written for a value
 pub record Written (text value : List ℕ) : Type 0 where
-  pub parts : List PlainPart
+  pub parts : List TextPart
   pub are : AreRuns parts
   pub spell : parts_text parts ≡ text
   pub stand : parts_value parts ≡ value
@@ -123,7 +126,7 @@ longer_run : (c : ℕ) (text : List ℕ) → IsKept c → IsRun text → IsRun (
 longer_run c text is (cs, some, all, same) = (c ∷ cs, (λ e. absurd (cc)), (is, all), ap (λ (l : List ℕ). encode_utf8 c ++ l) same)
 
 -- .. which begins a run
-begins_run : (c : ℕ) (parts : List PlainPart) → IsKept c → AreRuns parts → begins_with_data parts ≡ false → Written (encode_utf8 c ++ parts_text parts) (encode_utf8 c ++ parts_value parts)
+begins_run : (c : ℕ) (parts : List TextPart) → IsKept c → AreRuns parts → begins_with_data parts ≡ false → Written (encode_utf8 c ++ parts_text parts) (encode_utf8 c ++ parts_value parts)
 begins_run c parts is are alone = record {
   parts = data_part (encode_utf8 c) ∷ parts;
   are = (one_run c is, alone, are);
@@ -132,7 +135,7 @@ begins_run c parts is are alone = record {
 }
 
 -- .. or joins one
-joins_run : (c : ℕ) (text : List ℕ) (parts : List PlainPart) → IsKept c → AreRuns (data_part text ∷ parts) → Written (encode_utf8 c ++ parts_text (data_part text ∷ parts)) (encode_utf8 c ++ parts_value (data_part text ∷ parts))
+joins_run : (c : ℕ) (text : List ℕ) (parts : List TextPart) → IsKept c → AreRuns (data_part text ∷ parts) → Written (encode_utf8 c ++ parts_text (data_part text ∷ parts)) (encode_utf8 c ++ parts_value (data_part text ∷ parts))
 joins_run c text parts is are =
     let run = longer_run c text is are.0 in
     record {
@@ -144,10 +147,11 @@ joins_run c text parts is are =
           ∙ ap (λ (l : List ℕ). encode_utf8 c ++ (l ++ parts_value parts)) (sym (run_reads text are.0));
     }
 
-in_front : (c : ℕ) (parts : List PlainPart) → IsKept c → AreRuns parts → Written (encode_utf8 c ++ parts_text parts) (encode_utf8 c ++ parts_value parts)
+in_front : (c : ℕ) (parts : List TextPart) → IsKept c → AreRuns parts → Written (encode_utf8 c ++ parts_text parts) (encode_utf8 c ++ parts_value parts)
 in_front c [] is are = begins_run c [] is are refl
 in_front c (data_part text ∷ parts) is are = joins_run c text parts is are
 in_front c (reference_part text d ∷ parts) is are = begins_run c (reference_part text d ∷ parts) is are refl
+in_front c (section_part text content ∷ parts) is are = absurd are
 
 -- a kept character in front
 pub kept_written : (c : ℕ) (text value : List ℕ) → IsKept c → Written text value → Written (encode_utf8 c ++ text) (encode_utf8 c ++ value)

@@ -12,7 +12,7 @@ use Rattle.std.specs.List.{list_all}
 use Rattle.std.specs.Str.{IsUtf8}
 use lib.Utf8.{scalars}
 use Rattle.xt_spec.specs.Char.{is_char}
-use Rattle.xt_spec.specs.PlainText.{IsPlainText, HasTextValue}
+use Rattle.xt_spec.specs.Text.{IsTextItem, HasTextValue}
 use Rattle.xt_spec.specs.Escape.{escape_text}
 use Rattle.xt_escape.proofs.Parts.{none_is_cr, runs_are_parts}
 use Rattle.xt_escape.proofs.Escaped.{from_written, from_no_cr, from_scalars, from_some, from_length}
@@ -29,7 +29,7 @@ escape_has_value cs are =
     let written = from_written true cs are in
     (written.parts, runs_are_parts written.parts written.are, written.spell, written.stand)
 
-pub escape_is_text_item : (cs : List ℕ) → list_all is_char cs ≡ true → cs ≢ [] → IsPlainText (encode_utf8_all (escape_text cs))
+pub escape_is_text_item : (cs : List ℕ) → list_all is_char cs ≡ true → cs ≢ [] → IsTextItem (encode_utf8_all (escape_text cs))
 escape_is_text_item cs are some =
     let written = from_written true cs are in
     (written.parts, runs_are_parts written.parts written.are, (λ none. escape_not_empty cs some (sym written.spell ∙ rw none refl)), written.spell)

@@ -4,7 +4,7 @@ ghost use Rattle.std.specs.Prelude.{◌≡◌, ◌≢◌, ◌<◌, ◌≤◌, �
 ghost use Rattle.std.specs.List.{list_all, prefix_len};
 ghost use Rattle.std.specs.Str.{chars, IsUtf8};
 ghost use Rattle.xt_spec.specs.Char.{is_char};
-ghost use Rattle.xt_spec.specs.PlainText.{IsPlainText, HasTextValue};
+ghost use Rattle.xt_spec.specs.Text.{IsTextItem, HasTextValue};
 ghost use Rattle.xt_spec.specs.Escape.{escape_char, escape_from, escape_text};
 ghost use Rattle.xt_escape.specs.Kept.{is_kept_byte, inner_text};
 
@@ -97,7 +97,7 @@ fn split_end(text: &str) -> (&str, &str)
 /// The text as it is written in content, so that it reads back as itself: `a<]` gives `a&lt;&#93;`.
 pub fn escape_text(alloc: Global, text: &str) -> Result<String, AllocError>
     ensures value { IfOk result (λ out. string_bytes out ≡ encode_utf8_all (escape_text (chars text.now))) }
-    ensures law { text.now ≢ [] → list_all is_char (chars text.now) ≡ true → IfOk result (λ out. IsPlainText (string_bytes out)) }
+    ensures law { text.now ≢ [] → list_all is_char (chars text.now) ≡ true → IfOk result (λ out. IsTextItem (string_bytes out)) }
     ensures reads_back { list_all is_char (chars text.now) ≡ true → IfOk result (λ out. HasTextValue (string_bytes out) text.now) }
     ensures keeps { IfOk result (λ out. list_all (λ b. not (b == 0xD)) (string_bytes out) ≡ true) }
 {

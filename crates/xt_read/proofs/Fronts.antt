@@ -8,7 +8,6 @@ use Rattle.xt_spec.specs.Declaration.{Declaration, IsDeclarationOf, IsDeclaratio
 use Rattle.xt_spec.specs.Token.{declaration, IsLongestFront}
 use Rattle.xt_spec.specs.Tree.{Items, nil, leaf, gap, append, source_text}
 use Rattle.xt_spec.specs.Reading.{before_doctype, behind_root, Leads, mark, DeclaresUtf8, IsMarked, IsDeclared, document, entity, IsOrdered, IsReading}
-use Rattle.xt_spec.specs.Plain.{IsPlainItems}
 use Rattle.xt_lex.proofs.Theorems.{token_longest, declaration_unique}
 use Rattle.xt_read.specs.Run.{Body, document_body, content_body, IsBody, begin, piece_tok, declaration_piece, IsToken}
 use Rattle.xt_read.specs.Front.{NoDeclared, IsForeign, after_mark, role_of, form_of, body_for, mark_len, TakesDeclared, BeginsBody, IsFront}
@@ -165,36 +164,6 @@ one_len form text m n (inr (none, zero)) (inr (never, also)) = zero ∙ sym also
 
 pub one_begin : (role : FileRole) (text : List ℕ) (m n : ℕ) → BeginsBody role text m → BeginsBody role text n → m ≡ n
 one_begin role text m n a b = a.to_is ∙ ap (λ k. mark_len text + k) (one_len (form_of role) (after_mark text) a.len b.len a.takes b.takes) ∙ sym b.to_is
-
--- ---- documents without a front
-
--- a declaration is no white space
-declared_no_blank : (form : Declaration → Bool) (t : List ℕ) → DeclaresUtf8 form t → list_all is_space t ≡ false
-declared_no_blank form t (d, is, has, utf8) = ap (list_all is_space) (is.spelled ∙ begins is)
-  where
-    begins : (is : IsDeclarationOf d t) → codes "<?xml" ++ is.version ++ is.encoding ++ is.standalone ++ is.blank ++ codes "?>" ≡ 0x3C ∷ (codes "?xml" ++ is.version ++ is.encoding ++ is.standalone ++ is.blank ++ codes "?>")
-    begins is = simp append_assoc
-
--- a document with white space in front alone is its body
-pub reading_body : (bytes : List ℕ) (items : Items) → IsReading document bytes items → IsPlainItems items → IsBody document_body items × (source_text items ≡ bytes)
-reading_body bytes items is plain = (body is.ordered, is.joined)
-  where
-    declared : (list : Items) → IsPlainItems list → IsDeclared is_xml_declaration (λ main. Leads before_doctype main behind_root) list → Leads before_doctype list behind_root
-    declared list plain (inl (text, rest, same, decl, main)) =
-        let p : IsPlainItems (leaf gap text rest) = subst IsPlainItems same plain in
-        let h : true ≡ false = sym p.0 ∙ declared_no_blank is_xml_declaration text decl in absurd (cc)
-    declared list plain (inr main) = main
-
-    body : IsMarked (IsDeclared is_xml_declaration (λ main. Leads before_doctype main behind_root)) items → Leads before_doctype items behind_root
-    body (inl (rest, same, main)) = let p : IsPlainItems (leaf gap mark rest) = subst IsPlainItems same plain in let h : false ≡ true = p.0 in absurd (cc)
-    body (inr (none, main)) = declared items plain main
-
-pub body_reading : (bytes : List ℕ) (items : Items) → IsUtf8 bytes → starts_with nat_eq bytes mark ≡ false → IsBody document_body items → source_text items ≡ bytes → IsReading document bytes items
-body_reading bytes items utf8 none body joined = record {
-  utf8 = utf8;
-  joined = joined;
-  ordered = inr (ap (λ t. starts_with nat_eq t mark) joined ∙ none, inr body);
-}
 
 -- ---- one reading
 

@@ -1,6 +1,5 @@
 mod NameLemmas
 mod Marks
-mod Searches
 mod Tokens
 mod Runs
 mod ItemLemmas
@@ -15,9 +14,7 @@ mod TokenSteps
 mod Whole
 mod ValueParts
 mod Cuts
-mod NodeCounts
-mod PlainTags
-mod PlainTexts
-mod PlainItems
-mod PlainReadings
+mod TagValues
+mod LeafContent
+mod ItemContent
 pub mod Theorems

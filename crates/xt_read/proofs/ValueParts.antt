@@ -7,8 +7,7 @@ use Rattle.xt_spec.specs.Char.{is_name_start_char, is_name_char, is_not_colon}
 use Rattle.xt_spec.specs.Name.{IsSpeltBy, IsNCName, are_name_chars}
 use Rattle.xt_spec.specs.Reference.{NamesChar, StandsFor, is_decimal_digit, is_hexadecimal_digit}
 use Rattle.xt_spec.specs.Tag.{IsValuePart, IsReference, is_value_char}
-use Rattle.xt_spec.specs.PlainText.{PlainPart, data_part, reference_part, parts_text, begins_with_data}
-use Rattle.xt_spec.specs.Value.{AreValueParts}
+use Rattle.xt_spec.specs.Value.{ValuePart, characters_part, character_part, value_parts_text, begins_with_characters, AreValueParts}
 use Rattle.xt_lex.proofs.Spelling.{bytes_lack, spelt_joined, spelt_char, list_all_behind, list_all_weaker}
 use Rattle.xt_read.specs.References.{is_other, LacksByte, HasParts, AreSingles, Edge, BeginsReference, HasNoParts, IsSame, IsUpToSemicolon}
 
@@ -144,10 +143,10 @@ strip : (q : ℕ) (singles : List (List ℕ)) → AllByRecursion (IsValuePart q)
 strip q [] are = record { run = []; rest = []; joined = refl; spelt = ([], refl, refl); edge = tt; left = []; singles = (tt, refl); first = inl refl }
 strip q (s ∷ ss) are = strip_one q s ss are.1 are.0 (strip q ss are.1)
 
-edge_parts : (q : ℕ) (parts : List PlainPart) → AreValueParts q parts → begins_with_data parts ≡ false → Edge (parts_text parts)
+edge_parts : (q : ℕ) (parts : List ValuePart) → AreValueParts q parts → begins_with_characters parts ≡ false → Edge (value_parts_text parts)
 edge_parts q [] are none = tt
-edge_parts q (data_part t ∷ ps) are none = absurd (let h : true ≡ false = none in cc)
-edge_parts q (reference_part t c ∷ ps) are none = edge_reference t (parts_text ps) (stands_shaped t c are.0)
+edge_parts q (characters_part t ∷ ps) are none = absurd (let h : true ≡ false = none in cc)
+edge_parts q (character_part t c ∷ ps) are none = edge_reference t (value_parts_text ps) (stands_shaped t c are.0)
 
 nil_parts : (x y : List ℕ) → x ++ y ≡ [] → (x ≡ []) × (y ≡ [])
 nil_parts [] y e = (refl, e)
@@ -156,22 +155,22 @@ nil_parts (b ∷ x) y e = absurd (cc)
 -- the parts behind the characters before the first reference
 parts_behind : (q : ℕ) (run rest : List ℕ) → LacksByte 0x26 run → Edge rest → HasParts q (run ++ rest) → HasParts q rest
 parts_behind q run rest lacks edge ([], are, e) = ([], tt, sym (nil_parts run rest (sym e)).1)
-parts_behind q run rest lacks edge (data_part t ∷ ps, are, e) =
-    (ps, are.3, (edge_same t run (parts_text ps) rest (chars_lack q t are.0) lacks (edge_parts q ps are.3 are.2) edge e).1)
-parts_behind q run rest lacks edge (reference_part t c ∷ ps, are, e) =
-    let same = edge_same [] run (t ++ parts_text ps) rest refl lacks (edge_reference t (parts_text ps) (stands_shaped t c are.0)) edge e in
-    (reference_part t c ∷ ps, are, same.1)
+parts_behind q run rest lacks edge (characters_part t ∷ ps, are, e) =
+    (ps, are.3, (edge_same t run (value_parts_text ps) rest (chars_lack q t are.0) lacks (edge_parts q ps are.3 are.2) edge e).1)
+parts_behind q run rest lacks edge (character_part t c ∷ ps, are, e) =
+    let same = edge_same [] run (t ++ value_parts_text ps) rest refl lacks (edge_reference t (value_parts_text ps) (stands_shaped t c are.0)) edge e in
+    (character_part t c ∷ ps, are, same.1)
 
-no_data_at_edge : (q : ℕ) (parts : List PlainPart) → AreValueParts q parts → Edge (parts_text parts) → begins_with_data parts ≡ false
-no_data_at_edge q [] are edge = refl
-no_data_at_edge q (data_part [] ∷ ps) are edge = absurd (are.1 refl)
-no_data_at_edge q (data_part (b ∷ t) ∷ ps) are edge = absurd ((other_than 0x26 b t (chars_lack q (b ∷ t) are.0)).0 edge)
-no_data_at_edge q (reference_part t c ∷ ps) are edge = refl
+no_characters_at_edge : (q : ℕ) (parts : List ValuePart) → AreValueParts q parts → Edge (value_parts_text parts) → begins_with_characters parts ≡ false
+no_characters_at_edge q [] are edge = refl
+no_characters_at_edge q (characters_part [] ∷ ps) are edge = absurd (are.1 refl)
+no_characters_at_edge q (characters_part (b ∷ t) ∷ ps) are edge = absurd ((other_than 0x26 b t (chars_lack q (b ∷ t) are.0)).0 edge)
+no_characters_at_edge q (character_part t c ∷ ps) are edge = refl
 
 parts_before : (q : ℕ) (run rest : List ℕ) → IsSpeltBy (λ cs. list_all (is_value_char q) cs) run → Edge rest → HasParts q rest → HasParts q (run ++ rest)
 parts_before q [] rest spelt edge has = has
 parts_before q (b ∷ run) rest spelt edge (parts, are, e) =
-    (data_part (b ∷ run) ∷ parts, (spelt, (λ n. let h : ◌≡◌ {A = List ℕ} (b ∷ run) [] = n in cc), no_data_at_edge q parts are (subst Edge (sym e) edge), are), ap (λ t. (b ∷ run) ++ t) e)
+    (characters_part (b ∷ run) ∷ parts, (spelt, (λ n. let h : ◌≡◌ {A = List ℕ} (b ∷ run) [] = n in cc), no_characters_at_edge q parts are (subst Edge (sym e) edge), are), ap (λ t. (b ∷ run) ++ t) e)
 
 -- What is known of a value is known of it from its first reference on.
 pub skips : (q : ℕ) (singles : List (List ℕ)) (text run rest : List ℕ) → AreSingles q singles text → text ≡ run ++ rest → LacksByte 0x26 run → Edge rest
@@ -198,11 +197,11 @@ reference_first q singles text tail are begins =
 
 parts_at_reference : (q : ℕ) (text reference rest tail : List ℕ) → IsShaped reference → text ≡ reference ++ rest → text ≡ 0x26 ∷ tail → HasParts q text → ((c : ℕ) × StandsFor reference c) × HasParts q rest
 parts_at_reference q text reference rest tail shape joined begins ([], are, e) = absurd (let h : ◌≡◌ {A = List ℕ} [] (0x26 ∷ tail) = e ∙ begins in cc)
-parts_at_reference q text reference rest tail shape joined begins (data_part [] ∷ ps, are, e) = absurd (are.1 refl)
-parts_at_reference q text reference rest tail shape joined begins (data_part (b ∷ t) ∷ ps, are, e) =
-    absurd ((other_than 0x26 b t (chars_lack q (b ∷ t) are.0)).0 (let h : ◌≡◌ {A = List ℕ} (b ∷ (t ++ parts_text ps)) (0x26 ∷ tail) = e ∙ begins in cc))
-parts_at_reference q text reference rest tail shape joined begins (reference_part r c ∷ ps, are, e) =
-    let same = shaped_unique r reference (parts_text ps) rest (stands_shaped r c are.0) shape (e ∙ joined) in
+parts_at_reference q text reference rest tail shape joined begins (characters_part [] ∷ ps, are, e) = absurd (are.1 refl)
+parts_at_reference q text reference rest tail shape joined begins (characters_part (b ∷ t) ∷ ps, are, e) =
+    absurd ((other_than 0x26 b t (chars_lack q (b ∷ t) are.0)).0 (let h : ◌≡◌ {A = List ℕ} (b ∷ (t ++ value_parts_text ps)) (0x26 ∷ tail) = e ∙ begins in cc))
+parts_at_reference q text reference rest tail shape joined begins (character_part r c ∷ ps, are, e) =
+    let same = shaped_unique r reference (value_parts_text ps) rest (stands_shaped r c are.0) shape (e ∙ joined) in
     ((c, subst (λ r. StandsFor r c) same.0 are.0), (ps, are.1, same.1))
 
 -- .. and behind a reference, where that stands for a character.
@@ -217,7 +216,7 @@ takes_reference q singles text reference rest tail are joined begins (body, lack
     let reference_is : reference ≡ s = ends ∙ ap (λ b. b ++ 0x3B ∷ []) same.0 ∙ sym shape.is in (
       (ss, (left.0.1, sym same.1)),
       parts_at_reference q text reference rest tail (subst IsShaped (sym reference_is) shape) joined begins,
-      (λ c stands has. (reference_part reference c ∷ has.0, (stands, has.1), ap (λ t. reference ++ t) has.2 ∙ sym joined)),
+      (λ c stands has. (character_part reference c ∷ has.0, (stands, has.1), ap (λ t. reference ++ t) has.2 ∙ sym joined)),
     )
 
 -- a value that doesn't go on has no parts

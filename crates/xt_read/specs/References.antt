@@ -7,8 +7,7 @@
 use Rattle.std.specs.Prelude.{◌≡◌, ◌<◌, ℕ, Bool, IsUtf8, length, not, ◌==◌, IsTrue, List, [], ◌∷◌, ◌++◌}
 use Rattle.std.specs.List.{AllByRecursion, list_all, concat}
 use Rattle.xt_spec.specs.Tag.{IsValuePart, IsQuote}
-use Rattle.xt_spec.specs.PlainText.{PlainPart, parts_text}
-use Rattle.xt_spec.specs.Value.{AreValueParts}
+use Rattle.xt_spec.specs.Value.{ValuePart, value_parts_text, AreValueParts}
 
 abbrev pub is_other : ℕ → ℕ → Bool
 is_other byte b = not (b == byte)
@@ -17,7 +16,7 @@ abbrev pub LacksByte : ℕ → List ℕ → Type 0
 LacksByte byte text = IsTrue (list_all (is_other byte) text)
 
 abbrev pub HasParts : ℕ → List ℕ → Type 0
-HasParts q text = (parts : List PlainPart) × AreValueParts q parts × (parts_text parts ≡ text)
+HasParts q text = (parts : List ValuePart) × AreValueParts q parts × (value_parts_text parts ≡ text)
 
 abbrev pub AreSingles : ℕ → List (List ℕ) → List ℕ → Type 0
 AreSingles q singles text = AllByRecursion (IsValuePart q) singles × (concat singles ≡ text)

@@ -20,7 +20,7 @@ use xt_tree::Src;
 
 /// In which role a file of XML is read.
 #[derive(Clone, Copy, Debug, PartialEq, Eq)]
-pub(crate) enum FileRole {
+pub enum FileRole {
     Document,
     /// An external parsed entity.
     Entity,

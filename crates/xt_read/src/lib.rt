@@ -1,20 +1,19 @@
-//! From the bytes of one file to its lossless tree: what a plain document reads as, or that it is none.
-//! XML 1.0 (Fifth Edition), sections 2.1, 2.4, 3, 3.1 and 4.1; Namespaces in XML 1.0, section 4. Offsets are bytes of the
-//! file, from 0. The tokens are `xt_lex`'s; here is which of them may stand behind which: nesting, names of end-tags, two
-//! attributes of one name, levels, what stands at the top. Names are not resolved, and no value is made.
-//! Above, only `IsPlainDocument` and the places of the marks are used. The tree takes memory; nothing else does.
+//! From the bytes of one file to its lossless tree, as a document or as an external parsed entity, or its first fault; and
+//! whether a document gives content by itself. XML 1.0 (Fifth Edition), sections 2.1, 2.5 to 2.8, 3, 3.1, 4.1 and 4.3.1 to
+//! 4.3.3. Offsets are bytes of the file, from 0. The tokens are `xt_lex`'s; here is which of them may stand behind which:
+//! nesting, names of end-tags, two attributes of one name, levels, what stands at the top. Names are not resolved, and no
+//! value is made. Above, only `IsReading`, `IsFaultOf`, `HasContent` and the places of the marks are used. The tree takes
+//! memory; nothing else does but the names of a tag of many attributes.
 #![tactic(auto)]
 
 mod advance;
 mod bytes;
+mod content;
 mod document;
 mod front;
 mod items;
 mod laws;
 mod names;
-mod nodes;
-mod plain;
-mod plain_document;
 mod reader;
 mod stage;
 mod tags;
@@ -22,7 +21,8 @@ mod tags;
 mod tests;
 mod unread;
 
+pub use content::has_content;
 pub use document::{read_document, read_entity};
+pub use front::FileRole;
 pub use laws::{longest_tokens, no_fault, one_entity, one_fault, one_reading};
-pub use plain_document::{Unplain, read_plain};
 pub use unread::Unread;

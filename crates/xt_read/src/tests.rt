@@ -4,13 +4,13 @@
 
 ghost use Rattle.std.specs.Prelude.{◌≡◌};
 
-use crate::{Unread, read_document, read_entity};
+use crate::{Unread, has_content, read_document, read_entity};
 use sqlite_items::Items;
 use std::alloc::Global;
 use std::marker::Brand;
 use std::sync::ledger::{Blank, Ledger};
 use std::test::Fail;
-use xt_lex::{Span, Steps};
+use xt_lex::{Span, Steps, text_of};
 use xt_tree::Src;
 
 /// The most bytes of a file here.
@@ -103,6 +103,30 @@ fn entity_over<L: Ledger>(alloc: Global, bytes: &[u8], blank: Blank) -> Result<S
 fn entity(alloc: Global, bytes: &[u8]) -> Result<String, Fail> {
     let blank = Blank::new(1);
     entity_over::<Brand>(alloc, bytes, blank)
+}
+
+fn content_over<L: Ledger>(alloc: Global, bytes: &[u8], blank: Blank) -> Result<Option<bool>, Fail>
+    requires name { blank.name ≡ L.name }
+    requires parts { blank.parts ≡ L.parts }
+    requires some { L.parts ≡ 1 }
+{
+    let mut steps = Steps::<L>::new(blank);
+    if bytes.len() > MOST_BYTES {
+        return Ok(None);
+    }
+    let Ok(items) = read_document(alloc, bytes, &mut steps) else {
+        return Ok(None);
+    };
+    match text_of(bytes) {
+        Ok(text) => Ok(Some(has_content(text, items.as_slice()))),
+        Err(_) => Ok(None),
+    }
+}
+
+/// Whether the bytes give content by themselves; none where they are no document.
+fn content(alloc: Global, bytes: &[u8]) -> Result<Option<bool>, Fail> {
+    let blank = Blank::new(1);
+    content_over::<Brand>(alloc, bytes, blank)
 }
 
 #[test]
@@ -385,6 +409,41 @@ fn elements_nest_to_level_128(rt: HostRuntime) -> Result<(), Fail> {
         assert_eq!(rt; fault_alone(file.as_str()), fault, "at {levels} {inner}");
         let file = entity(alloc, text.as_bytes())?;
         assert_eq!(rt; fault_alone(file.as_str()), fault, "at {levels} {inner}");
+    }
+    Ok(())
+}
+
+#[test]
+fn documents_give_content_by_themselves(rt: HostRuntime) -> Result<(), Fail> {
+    let alloc = rt.alloc();
+    for (text, gives) in [
+        ("<a/>", true),
+        ("\n<a>x</a>\n", true),
+        ("<a>&amp;&#65;&#x1F600;</a>", true),
+        ("<a n=\"&lt;\" m='&quot;&#10;x&apos;'/>", true),
+        ("<a><b n='1'/><b n=''>]]<![CDATA[&e;<]]></b></a>", true),
+        ("<a><!--&e;--><?p &e;?><?p?><?p   x?></a>", true),
+        (
+            "\u{FEFF}<?xml version='1.0'?><!--<!DOCTYPE a>--><a/> <?p?>",
+            true,
+        ),
+        ("<p:a xmlns:p='u:1' q:n=''>\r\n</p:a>", true),
+        ("<a>&e;</a>", false),
+        ("<a><b>x&lt;&lt;y&lte;</b></a>", false),
+        ("<a n=\"&e;\"/>", false),
+        ("<a n='' m='&lt;&e;'/>", false),
+        ("<a><b/><c n='&amp;x&amp;' m='&AMP;'></c></a>", false),
+        ("<!DOCTYPE a><a/>", false),
+        ("<!DOCTYPE a []><a/>", false),
+        (
+            "\u{FEFF}<?xml version='1.0'?><!--c-->\n<!DOCTYPE a SYSTEM 'u:1'><a/>",
+            false,
+        ),
+    ] {
+        assert_eq!(rt; content(alloc, text.as_bytes())?, Some(gives), "at {text}");
+    }
+    for text in ["<a n='&#0;'/>", "<a>&amp</a>", "x"] {
+        assert_eq!(rt; content(alloc, text.as_bytes())?, None, "at {text}");
     }
     Ok(())
 }

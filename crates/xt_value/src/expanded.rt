@@ -1,5 +1,5 @@
 //! Expanded names. Namespaces in XML 1.0, sections 2.1, 5 and 6.2.
-ghost use Rattle.std.specs.Prelude.{◌≡◌, [], Some, None, unwrap_or, IfOk, IsErrOf};
+ghost use Rattle.std.specs.Prelude.{◌≡◌, [], false, Some, None, unwrap_or, IfOk, IsErrOf};
 ghost use Rattle.std.specs.Option.{option_copied};
 ghost use Rattle.xt_spec.specs.Namespace as spec;
 
@@ -74,7 +74,7 @@ impl From<AllocError> for NameFault {
 }
 
 /// The prefix of a name, where it has one, and its local part.
-fn split_qname(qname: &str) -> (Option<&str>, &str)
+pub(crate) fn split_qname(qname: &str) -> (Option<&str>, &str)
     ensures prefix { option_copied result.0 ≡ spec.prefix_of qname.now }
     ensures local { result.1.now ≡ spec.local_of qname.now }
 {
@@ -99,6 +99,27 @@ pub fn is_declaration(name: &str) -> bool
     name == "xmlns" || prefix_of(name) == "xmlns"
 }
 
+/// The namespace of this name, with one more owner; none where the name is empty. The one error is a full count of owners.
+fn share_named(namespace: &SharedText) -> Result<Option<SharedText>, AllocError>
+    ensures value { IfOk result (λ space. unwrap_or space [] ≡ namespace.now) }
+{
+    if namespace.len() == 0 {
+        Ok(None)
+    } else {
+        Ok(Some(namespace.share()?))
+    }
+}
+
+/// The default namespace, if there is one. The one error is a full count of owners.
+fn default_space(scope: &Scope) -> Result<Option<SharedText>, AllocError>
+    ensures value { IfOk result (λ space. unwrap_or space [] ≡ spec.default_of scope.now false) }
+{
+    match scope.namespace_at("") {
+        Some(namespace) => share_named(namespace),
+        None => Ok(None),
+    }
+}
+
 /// The expanded name of an attribute, or of an element: a default namespace is for elements alone.
 pub fn expand_name<'a>(
     scope: &Scope,
@@ -108,5 +129,14 @@ pub fn expand_name<'a>(
     ensures value { IfOk result (λ name. spec.expanded_name scope.now attribute qname.now ≡ Some name) }
     ensures fault { IsErrOf result NameFault.Unbound → spec.expanded_name scope.now attribute qname.now ≡ None }
 {
-    Err(NameFault::NoMemory)
+    let (prefix, local) = split_qname(qname);
+    let space = match prefix {
+        Some(prefix) => match scope.namespace_at(prefix) {
+            Some(namespace) => share_named(namespace)?,
+            None => return Err(NameFault::Unbound),
+        },
+        None if attribute => None,
+        None => default_space(scope)?,
+    };
+    Ok(Expanded { space, local })
 }

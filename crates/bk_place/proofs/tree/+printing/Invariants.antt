@@ -1,13 +1,12 @@
-use Rattle.std.proofs.Common.{◌≡◌, drop}
-use Rattle.xt_tree.specs.Meaning.{items_in}
-use Rattle.xt_tree.specs.Places.{marks_of}
-use Rattle.bk_place.specs.Printing.{PrintsItems, AreTagsInPlace}
+use Rattle.std.proofs.Common.{◌≡◌, ◌++◌, drop}
+use Rattle.std.specs.Option.{option_copied}
+use Rattle.bk_spec.specs.Print.{print_nodes}
+use Rattle.bk_info.specs.Nodes.{nodes_in}
 use Rattle.bk_place.proofs.tree.+printing.Given as goal
 
 -- what is printed so far, and what is left
-abbrev pub invariant-put_items-loop-item : goal.invariant-put_items-loop-item
-invariant-put_items-loop-item l = record {
+abbrev pub invariant-put_nodes-loop-node : goal.invariant-put_nodes-loop-node
+invariant-put_nodes-loop-node l = record {
   indent : l.indent.items ≡ l.fn.indent.items;
-  printed : AreTagsInPlace l.bytes (marks_of l.items) → AreTagsInPlace l.bytes (marks_of (drop l.item-index l.items))
-      × PrintsItems l.file l.uri l.fn.indent.items (items_in l.bytes l.items) (items_in l.bytes (drop l.item-index l.items)) l.fn.out.items l.out.items;
+  printed : l.out.items ++ print_nodes l.fn.indent.items (option_copied l.parent) (nodes_in (drop l.node-index l.nodes)) ≡ l.fn.out.items ++ print_nodes l.fn.indent.items (option_copied l.parent) (nodes_in l.nodes);
 }

@@ -3,7 +3,7 @@ use Rattle.std.proofs.lemmas.Str.{encodes-chars}
 use Rattle.std.specs.List.{list_all}
 use Rattle.std.specs.Str.{chars, IsUtf8}
 use Rattle.xt_spec.specs.Char.{is_char}
-use Rattle.xt_spec.specs.PlainText.{IsPlainText, HasTextValue}
+use Rattle.xt_spec.specs.Text.{IsTextItem, HasTextValue}
 use Rattle.xt_spec.specs.Escape.{escape_text}
 use Rattle.xt_escape.proofs.Parts.{has_no_cr}
 use Rattle.xt_escape.proofs.Inner.{parts_joined}
@@ -13,7 +13,7 @@ use Rattle.xt_escape.proofs.content.escape_text.Goals as goal
 -- the clauses, of what was put
 record Clauses (text out : List ℕ) : Type 0 where
   value : out ≡ encode_utf8_all (escape_text (chars text))
-  law : text ≢ [] → list_all is_char (chars text) ≡ true → IsPlainText out
+  law : text ≢ [] → list_all is_char (chars text) ≡ true → IsTextItem out
   reads_back : list_all is_char (chars text) ≡ true → HasTextValue out text
   keeps : has_no_cr out ≡ true
 
@@ -23,7 +23,7 @@ hold text out utf8 is =
     let same = encodes-chars text utf8 in
     record {
       value = is;
-      law = λ some are. subst IsPlainText (sym is) (escape_is_text_item cs are (λ none. some (sym same ∙ ap encode_utf8_all none)));
+      law = λ some are. subst IsTextItem (sym is) (escape_is_text_item cs are (λ none. some (sym same ∙ ap encode_utf8_all none)));
       reads_back = λ are. subst (λ (l : List ℕ). HasTextValue l text) (sym is) (subst (λ (l : List ℕ). HasTextValue (encode_utf8_all (escape_text cs)) l) same (escape_has_value cs are));
       keeps = ap has_no_cr is ∙ escape_has_no_cr cs;
     }

@@ -1,0 +1,5 @@
+-- What the crates above cite of this one.
+--
+--   element_is, text_is, comment_is, pi_is   a node of the code, and those behind it
+--   nodes_before-append, nodes_before-last   nodes in a row
+pub use Rattle.bk_info.proofs.NodeLemmas.{element_is, text_is, comment_is, pi_is, nodes_before-append, nodes_before-last}

@@ -1,8 +1,0 @@
-use Rattle.std.proofs.Common.{List, drop}
-use Rattle.xt_spec.specs.Tag.{Attribute}
-use Rattle.xt_read.specs.PlainTest.{StandAll}
-use Rattle.xt_read.proofs.PlainTags.{IsLeft}
-use Rattle.xt_read.proofs.plain.are_plain_attributes.Given as goal
-
-abbrev pub invariant-loop-attr : goal.invariant-loop-attr
-invariant-loop-attr l = (all : List Attribute) → StandAll l.text l.attrs all → IsLeft l.text (drop l.attr-index l.attrs) all
