@@ -3,11 +3,21 @@
 //! So far of documents that need no declaration, and of one file. What a reading is, is for `xt_read`.
 #![tactic(auto)]
 
+mod around;
+mod attribute;
+mod distinct;
 mod document;
+mod element;
 mod fault;
 mod inclusion;
 mod laws;
+mod leaf;
+mod names;
 mod opening;
+mod source;
+mod tag;
+mod tree;
+mod work;
 
 pub use document::document_nodes;
 pub use fault::OpenFault;
