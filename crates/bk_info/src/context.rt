@@ -1,5 +1,5 @@
 //! What an element hands on to what it holds.
-ghost use Rattle.std.specs.Prelude.{◌≡◌, IfOk};
+ghost use Rattle.std.specs.Prelude.{◌≡◌, IfOk, unwrap_or};
 
 use bk_name::Uri;
 use std::alloc::{AllocError, Global};
@@ -42,6 +42,35 @@ impl Context {
         Ok(Context {
             data: Shared::new(alloc, data)?,
         })
+    }
+
+    /// The context with what is given in place of its own; with nothing given it is this one, and no memory is taken.
+    /// The one error is want of memory, or a full count of owners.
+    pub fn child(
+        &self,
+        alloc: Global,
+        scope: Option<Scope>,
+        base: Option<Uri>,
+        lang: Option<SharedText>,
+    ) -> Result<Context, AllocError>
+        ensures value { IfOk result (λ context. context ≡ record { scope = unwrap_or scope self.now.scope; base = unwrap_or base self.now.base; lang = unwrap_or lang self.now.lang }) }
+    {
+        if scope.is_none() && base.is_none() && lang.is_none() {
+            return self.share();
+        }
+        let scope = match scope {
+            Some(scope) => scope,
+            None => self.scope().share()?,
+        };
+        let base = match base {
+            Some(base) => base,
+            None => self.base().share()?,
+        };
+        let lang = match lang {
+            Some(lang) => lang,
+            None => self.lang().share()?,
+        };
+        Context::new(alloc, scope, base, lang)
     }
 
     /// One more owner of the same context. The one error is a full count of owners.

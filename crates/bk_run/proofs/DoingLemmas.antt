@@ -69,14 +69,14 @@ pub start_closes : (root : List ℕ) (old now : DiskState) (k : Kept) → IsStar
 start_closes root old now k is = record { closed = is.recovered.gate; durable = is.recovered.durable Gate }
 
 pub start_opens : (root : List ℕ) (old now : DiskState) (k : Kept) → IsStarted root old now k → (items : Items) × Opens root (book_files now.files) k.bytes items
-start_opens root old now k is = (is.over.items, record { found = is.over.found; plain = is.over.plain })
+start_opens root old now k is = (is.over.items, record { found = is.over.found; nodes = is.over.opens.0; opens = is.over.opens.1 })
 
 -- ---- edits
 
 pub edit_done : (k now : Kept) (disk : DiskState) (s : Session) (e : Edit) → Stands k disk s → IsEdited e k now → IsDone k.root s (edit e) done now disk
 edit_done k now disk s e stands is = record {
   next = after_edit s next;
-  does = accepts e next (k.bytes, is.items, is.edited.others, record { found = found; plain = is.plain }, is.edited.accepts, refl);
+  does = accepts e next (k.bytes, is.items, is.edited.others, record { found = found; nodes = is.opens.0; opens = is.opens.1 }, is.edited.accepts, refl);
   root_is = is.root;
   stands = record {
     book = stands.book;
@@ -96,11 +96,11 @@ edit_done k now disk s e stands is = record {
     found : s.book k.root ≡ Some k.bytes
     found = ap (λ (b : Book). b k.root) stands.edited ∙ file_there k.root k.bytes s.saved
 
-pub edit_refused : (k now : Kept) (disk : DiskState) (s : Session) (e : Edit) (refusal : Refusal) → Stands k disk s → now ≡ k → IsRefusedIn k.bytes e (Refused refusal)
+pub edit_refused : (k now : Kept) (disk : DiskState) (s : Session) (e : Edit) (refusal : Refusal) → Stands k disk s → now ≡ k → IsRefusedIn k.root k.bytes e (Refused refusal)
     → IsDone k.root s (edit e) (refused (refusal_of refusal)) now disk
-edit_refused k now disk s e refusal stands same (items, plain, is) = record {
+edit_refused k now disk s e refusal stands same (items, opens, is) = record {
   next = s;
-  does = refuses e (refusal_of refusal) (k.bytes, items, record { found = ap (λ (b : Book). b k.root) stands.edited ∙ file_there k.root k.bytes s.saved; plain = plain }, is);
+  does = refuses e (refusal_of refusal) (k.bytes, items, record { found = ap (λ (b : Book). b k.root) stands.edited ∙ file_there k.root k.bytes s.saved; nodes = opens.0; opens = opens.1 }, is);
   root_is = ap (λ (k : Kept). k.root) same;
   stands = subst (λ (k : Kept). Stands k disk s) (sym same) stands;
 }

@@ -1,13 +1,13 @@
 -- Words, script and files give one output.
-use Rattle.std.proofs.Common.{◌≡◌, ◌∙◌, ℕ, List, [], ◌∷◌, ◌++◌, refl, sym, ap, ap₂, subst, Option, Some, None, inl, inr}
+use Rattle.std.proofs.Common.{◌≡◌, ◌∙◌, ℕ, ◌<◌, ◌≤◌, List, [], ◌∷◌, ◌++◌, length, arith, refl, sym, ap, ap₂, subst, Option, Some, None, inl, inr}
 use Rattle.xt_spec.specs.Tree.{Items}
-use Rattle.xt_spec.specs.Plain.{IsPlainDocument}
-use Rattle.xt_spec.specs.Reading.{document, IsReading}
-use Rattle.xt_read.proofs.Theorems.{one_tree}
 use Rattle.bk_spec.specs.Node.{Nodes}
-use Rattle.bk_spec.specs.PlainNodes.{GivesNodes}
+use Rattle.bk_spec.specs.Fault.{Fault, fault_line}
+use Rattle.bk_spec.specs.Opening.{IsOpen}
 use Rattle.bk_spec.specs.Print.{print_tree}
-use Rattle.bk_place.proofs.Theorems.{document_nodes, nodes_unique}
+use Rattle.ent_doc.specs.Opening.{IsDocumentFault}
+use Rattle.ent_doc.proofs.Theorems.{document_fault_once, open_has_no_fault, opens_once}
+use Rattle.ed_session.specs.Start.{IsRootFault, absent, longer, faulty}
 use Rattle.ed_spec.specs.Book.{Book, Opens}
 use Rattle.ed_spec.specs.Session.{Session, Command, Reply, Step, opened, Does, accepts, refuses, undoes, undoes_nothing, redoes, redoes_nothing, saves, DoesAll, nothing, then}
 use Rattle.ed_laws.proofs.Theorems.{one_run}
@@ -20,7 +20,7 @@ use Rattle.bk_script.proofs.Scripts.{one_reading, no_fault, one_fault}
 use Rattle.jr_burst.specs.SavedFiles.{recovered_files}
 use Rattle.bk_run.specs.Replies.{IsCommandOf, AreCommandsOf, replies_text}
 use Rattle.book_cli.specs.Words.{root_of}
-use Rattle.book_cli.specs.Output.{IsScriptLine, file_uri, IsTree, status_after, IsRun, IsBookRun, missing, not_yet, ran, BookOutput, ScriptOutput, no_script, damaged, recovered, RootOutput, IsOutput}
+use Rattle.book_cli.specs.Output.{IsScriptLine, IsTree, status_after, IsRun, IsBookRun, closed, ran, BookOutput, ScriptOutput, no_script, damaged, recovered, RootOutput, IsOutput}
 
 pub some_same : (A : Type 0) (a b : A) (found : Option A) → found ≡ Some a → found ≡ Some b → a ≡ b
 some_same A a b found first second = let e : ◌≡◌ {A = Option A} (Some a) (Some b) = sym first ∙ second in cc
@@ -59,9 +59,8 @@ asked_once (command ∷ commands) (x ∷ xs) (y ∷ ys) first second = ap₂ (λ
 pub tree_once : (root : List ℕ) (book : Book) (x y : List ℕ) → IsTree root book x → IsTree root book y → x ≡ y
 tree_once root book x y a b =
     let bytes : a.bytes ≡ b.bytes = some_same (List ℕ) a.bytes b.bytes (book root) a.opens.found b.opens.found in
-    let items : a.items ≡ b.items = one_tree b.bytes a.items b.items (subst (λ (t : List ℕ). IsReading document t a.items) bytes a.opens.plain.reading) b.opens.plain.reading in
-    let nodes : a.nodes ≡ b.nodes = nodes_unique root (file_uri root) b.items a.nodes b.nodes (subst (λ (i : Items). GivesNodes root (file_uri root) i a.nodes) items a.gives) b.gives in
-    a.printed ∙ ap (λ (n : Nodes). print_tree n) nodes ∙ sym b.printed
+    let one = opens_once root b.bytes a.items b.items a.opens.nodes b.opens.nodes (subst (λ (t : List ℕ). IsOpen root t a.items a.opens.nodes) bytes a.opens.opens) b.opens.opens in
+    a.printed ∙ ap (λ (n : Nodes). print_tree n) one.1 ∙ sym b.printed
 
 -- ---- a run
 
@@ -101,12 +100,28 @@ no_run root commands book steps tree never run =
     let shut : IsShut root run.last = ends_shut root (opened root book) run.last run.asked steps run.does (record { never = never; past = refl; future = refl }) in
     shut.never run.shows.bytes run.shows.items run.shows.opens
 
-missing_shut : (root : List ℕ) (book : Book) → book root ≡ None → (bytes : List ℕ) (items : Items) → Opens root book bytes items → ⊥
-missing_shut root book none bytes items opens = none_some (List ℕ) bytes (book root) none opens.found
+-- ---- a root that doesn't open
 
-not_yet_shut : (root : List ℕ) (book : Book) (content : List ℕ) → book root ≡ Some content → ((items : Items) → ¬ IsPlainDocument content items) → (bytes : List ℕ) (items : Items) → Opens root book bytes items → ⊥
-not_yet_shut root book content found never bytes items opens =
-    never items (subst (λ (l : List ℕ). IsPlainDocument l items) (some_same (List ℕ) bytes content (book root) opens.found found) opens.plain)
+too_long : (bytes others : List ℕ) → bytes ≡ others → 4194304 < length bytes → length others ≤ 4194304 → ⊥
+too_long bytes others same more fits = let size = ap length same in absurd (omega (arith, size, more, fits))
+
+root_fault_once : (root : List ℕ) (file : Option (List ℕ)) (a b : Fault) → IsRootFault root file a → IsRootFault root file b → a ≡ b
+root_fault_once root file a b (absent none is) (absent also same) = is ∙ sym same
+root_fault_once root file a b (absent none is) (longer bytes found more same) = absurd (none_some (List ℕ) bytes file none found)
+root_fault_once root file a b (absent none is) (faulty bytes found fits fault) = absurd (none_some (List ℕ) bytes file none found)
+root_fault_once root file a b (longer bytes found more is) (absent none same) = absurd (none_some (List ℕ) bytes file none found)
+root_fault_once root file a b (longer bytes found more is) (longer others also long same) = is ∙ sym same
+root_fault_once root file a b (longer bytes found more is) (faulty others also fits fault) = absurd (too_long bytes others (some_same (List ℕ) bytes others file found also) more fits)
+root_fault_once root file a b (faulty bytes found fits fault) (absent none same) = absurd (none_some (List ℕ) bytes file none found)
+root_fault_once root file a b (faulty bytes found fits fault) (longer others also more same) = absurd (too_long others bytes (some_same (List ℕ) others bytes file also found) more fits)
+root_fault_once root file a b (faulty bytes found fits fault) (faulty others also size other) =
+    document_fault_once root others a b (subst (λ (l : List ℕ). IsDocumentFault root l a) (some_same (List ℕ) bytes others file found also) fault) other
+
+fault_shuts : (root : List ℕ) (book : Book) (fault : Fault) → IsRootFault root (book root) fault → (bytes : List ℕ) (items : Items) → Opens root book bytes items → ⊥
+fault_shuts root book fault (absent none is) bytes items opens = none_some (List ℕ) bytes (book root) none opens.found
+fault_shuts root book fault (longer others found more is) bytes items opens = too_long others bytes (some_same (List ℕ) others bytes (book root) found opens.found) more opens.opens.size
+fault_shuts root book fault (faulty others found fits cause) bytes items opens =
+    open_has_no_fault root bytes items opens.nodes fault opens.opens (subst (λ (l : List ℕ). IsDocumentFault root l fault) (some_same (List ℕ) others bytes (book root) found opens.found) cause)
 
 -- ---- the output
 
@@ -118,14 +133,10 @@ pub record AreSame (steps others : List Step) (last more : List ℕ) (status oth
 
 pub one_book_run : (root : List ℕ) (commands : List script.Command) (book : Book) (xs ys : List Step) (x y : List ℕ) (s t : ℕ)
     → IsBookRun root commands book xs x s → IsBookRun root commands book ys y t → AreSame xs ys x y s t
-one_book_run root commands book xs ys x y s t (missing none no_steps line is) (missing _ empty other same) = record { steps_are = no_steps ∙ sym empty; last_is = line ∙ sym other; status_is = is ∙ sym same }
-one_book_run root commands book xs ys x y s t (missing none no_steps line is) (not_yet bytes found never empty other same) = absurd (none_some (List ℕ) bytes (book root) none found)
-one_book_run root commands book xs ys x y s t (not_yet bytes found never empty other same) (missing none no_steps line is) = absurd (none_some (List ℕ) bytes (book root) none found)
-one_book_run root commands book xs ys x y s t (not_yet _ _ _ no_steps line is) (not_yet _ _ _ empty other same) = record { steps_are = no_steps ∙ sym empty; last_is = line ∙ sym other; status_is = is ∙ sym same }
-one_book_run root commands book xs ys x y s t (missing none _ _ _) (ran run _) = absurd (no_run root commands book ys y (missing_shut root book none) run)
-one_book_run root commands book xs ys x y s t (ran run _) (missing none _ _ _) = absurd (no_run root commands book xs x (missing_shut root book none) run)
-one_book_run root commands book xs ys x y s t (not_yet bytes found never _ _ _) (ran run _) = absurd (no_run root commands book ys y (not_yet_shut root book bytes found never) run)
-one_book_run root commands book xs ys x y s t (ran run _) (not_yet bytes found never _ _ _) = absurd (no_run root commands book xs x (not_yet_shut root book bytes found never) run)
+one_book_run root commands book xs ys x y s t (closed fault cause no_steps line is) (closed more also empty other same) =
+    record { steps_are = no_steps ∙ sym empty; last_is = line ∙ ap fault_line (root_fault_once root (book root) fault more cause also) ∙ sym other; status_is = is ∙ sym same }
+one_book_run root commands book xs ys x y s t (closed fault cause _ _ _) (ran run _) = absurd (no_run root commands book ys y (fault_shuts root book fault cause) run)
+one_book_run root commands book xs ys x y s t (ran run _) (closed fault cause _ _ _) = absurd (no_run root commands book xs x (fault_shuts root book fault cause) run)
 one_book_run root commands book xs ys x y s t (ran run is) (ran more same) =
     let one = run_once root commands book xs ys x y run more in
     record { steps_are = one.0; last_is = one.1; status_is = is ∙ ap status_after one.0 ∙ sym same }
@@ -182,22 +193,10 @@ output_unique words bytes files s t x y first second = root_unique (root_of word
 
 -- ---- what a run tells
 
--- the tree that was printed of the root's items
-pub tree_stands : (root uri : List ℕ) (book : Book) (bytes text : List ℕ) (items : Items) → uri ≡ file_uri root → Opens root book bytes items
-    → ((nodes : Nodes) → GivesNodes root uri items nodes → text ≡ print_tree nodes) → IsTree root book text
-tree_stands root uri book bytes text items is opens prints =
-    let (nodes, gives) = document_nodes root (file_uri root) bytes items opens.plain in
-    record {
-      bytes = bytes;
-      items = items;
-      nodes = nodes;
-      opens = opens;
-      gives = gives;
-      printed = prints nodes (subst (λ (u : List ℕ). GivesNodes root u items nodes) (sym is) gives);
-    }
+-- the tree that was printed of the root's nodes
+pub tree_stands : (root bytes : List ℕ) (items : Items) (nodes : Nodes) (book : Book) (text : List ℕ) → IsOpen root bytes items nodes → book root ≡ Some bytes → text ≡ print_tree nodes → IsTree root book text
+tree_stands root bytes items nodes book text opens found is = record { bytes = bytes; items = items; opens = record { found = found; nodes = nodes; opens = opens }; printed = is }
 
 -- a root that opens has a tree
 pub tree_exists : (root : List ℕ) (book : Book) (bytes : List ℕ) (items : Items) → Opens root book bytes items → (text : List ℕ) × IsTree root book text
-tree_exists root book bytes items opens =
-    let (nodes, gives) = document_nodes root (file_uri root) bytes items opens.plain in
-    (print_tree nodes, record { bytes = bytes; items = items; nodes = nodes; opens = opens; gives = gives; printed = refl })
+tree_exists root book bytes items opens = (print_tree opens.nodes, record { bytes = bytes; items = items; opens = opens; printed = refl })

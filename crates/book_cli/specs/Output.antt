@@ -1,7 +1,6 @@
 -- The output of a run and its exit status, from the words, the script and the files on the disk; of this project. Each line
 -- ends in LF.
 --
---   file_uri         the URI of a file, under the base that is assumed
 --   IsTree           the tree of a book
 --   IsRun            a run over a book whose root opens
 --   IsBookRun        .. over a book that was recovered: its replies, what is told behind them, and the status
@@ -15,9 +14,7 @@
 use Rattle.std.specs.Prelude.{◌≡◌, ◌⊎◌, ℕ, Bool, ◌||◌, ◌==◌, List, [], ◌++◌, take, codes, if◌then◌else◌, Option, Some, None}
 use Rattle.std.specs.Fmt.{decimal}
 use Rattle.xt_spec.specs.Tree.{Items}
-use Rattle.xt_spec.specs.Plain.{IsPlainDocument}
-use Rattle.bk_spec.specs.Node.{Nodes}
-use Rattle.bk_spec.specs.PlainNodes.{GivesNodes}
+use Rattle.bk_spec.specs.Fault.{Fault, fault_line}
 use Rattle.bk_spec.specs.Print.{print_tree}
 use Rattle.ed_spec.specs.Book.{Book, Opens}
 use Rattle.ed_spec.specs.Session.{Session, Command, Step, opened, DoesAll}
@@ -28,16 +25,11 @@ use Rattle.bk_script.specs.declared.script.ScriptFault.{ScriptFault}
 use Rattle.bk_script.specs.declared.script.ScriptFault.TheVariants.{Long, BadLine, Many, NoMemory}
 use Rattle.jr_burst.specs.SavedFiles.{recovered_files}
 use Rattle.book_cli.specs.Words.{root_of}
+use Rattle.ed_session.specs.Start.{IsRootFault}
 use Rattle.bk_run.specs.Replies.{AreCommandsOf, replies_text, any_refused}
 
 abbrev pub usage_line : List ℕ
 usage_line = codes "usage: bookedit [--base URI] ROOT [CATALOG]...\n"
-
-abbrev pub missing_line : List ℕ → List ℕ
-missing_line file = codes "fault Missing " ++ file ++ codes "\n"
-
-abbrev pub not_yet_line : List ℕ → List ℕ
-not_yet_line file = codes "fault NotYet " ++ file ++ codes "\n"
 
 abbrev pub journal_line : List ℕ
 journal_line = codes "fault journal\n"
@@ -52,18 +44,12 @@ IsScriptLine (BadLine number) text = text ≡ codes "fault script line " ++ deci
 IsScriptLine Many text = text ≡ codes "fault script commands\n"
 IsScriptLine NoMemory text = ⊥
 
--- the base is `file:///book/`
-abbrev pub file_uri : List ℕ → List ℕ
-file_uri file = codes "file:///book/" ++ file
-
 -- the tree of a book with this root
 pub record IsTree (root : List ℕ) (book : Book) (text : List ℕ) : Type 0 where
   pub bytes : List ℕ
   pub items : Items
-  pub nodes : Nodes
   pub opens : Opens root book bytes items
-  pub gives : GivesNodes root (file_uri root) items nodes
-  pub printed : text ≡ print_tree nodes
+  pub printed : text ≡ print_tree opens.nodes
 
 -- 1 where a command was refused
 abbrev pub status_after : List Step → ℕ
@@ -77,12 +63,10 @@ pub record IsRun (root : List ℕ) (commands : List script.Command) (book : Book
   pub does : DoesAll root (opened root book) asked steps last
   pub shows : IsTree root last.book tree
 
--- A run over a book that was recovered: the replies to the commands and what is told behind them. No replies, a fault line and
--- 3 where the root isn't there, or is no plain document; else the tree, and 0 or 1.
+-- A run over a book that was recovered: the replies to the commands and what is told behind them. No replies, the line of the
+-- root's first fault and 3 where the root doesn't open; else the tree, and 0 or 1.
 pub data IsBookRun (root : List ℕ) (commands : List script.Command) (book : Book) (steps : List Step) (last : List ℕ) (status : ℕ) : Type 0 where
-  missing : book root ≡ None → steps ≡ [] → last ≡ missing_line root → status ≡ 3 → IsBookRun root commands book steps last status
-  not_yet : (bytes : List ℕ) → book root ≡ Some bytes → ((items : Items) → ¬ IsPlainDocument bytes items)
-      → steps ≡ [] → last ≡ not_yet_line root → status ≡ 3 → IsBookRun root commands book steps last status
+  closed : (fault : Fault) → IsRootFault root (book root) fault → steps ≡ [] → last ≡ fault_line fault → status ≡ 3 → IsBookRun root commands book steps last status
   ran : IsRun root commands book steps last → status ≡ status_after steps → IsBookRun root commands book steps last status
 
 abbrev pub BookOutput : List ℕ → List script.Command → Book → ℕ → List ℕ → Type 0

@@ -4,6 +4,7 @@
 ghost use Rattle.std.specs.Prelude.{◌≡◌};
 
 pub mod laws;
+mod fault;
 mod real;
 pub mod run;
 mod telling;

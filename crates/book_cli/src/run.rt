@@ -10,7 +10,8 @@ ghost use Rattle.bk_script.specs.Script.{IsScript};
 ghost use Rattle.book_cli.specs.Words.{root_of};
 ghost use Rattle.xt_spec.specs.Tree.{Items};
 ghost use Rattle.bk_spec.specs.Node.{Nodes};
-ghost use Rattle.bk_spec.specs.PlainNodes.{GivesNodes};
+ghost use Rattle.bk_spec.specs.DocumentNodes.{Context};
+ghost use Rattle.bk_spec.specs.Opening.{GivesNodes};
 ghost use Rattle.ed_spec.specs.Place.{text_set};
 ghost use Rattle.ed_spec.specs.Edit.{text_edit, IsInText, range_replaced, Accepts};
 ghost use Rattle.book_cli.specs.Output.{is_book_status, is_script_status, is_exit_status, is_answer, IsOutput, WritesOutput};
@@ -18,7 +19,8 @@ ghost use Rattle.bk_run.specs.Input.{IsInput};
 ghost use Rattle.book_cli.specs.Leaves.{RecoveredBook, recovers_book, MayCrashIn, KeepsFiles, IsBookSaved, TakesRunSteps};
 ghost use Rattle.book_cli.specs.Ends.{IsSessionRun, IsRunOver, IsSourceFault, EndsBy, EndsEarly};
 
-use crate::telling::{FAULT, NO_MEMORY, tell, tell_closed, tell_script_fault};
+use crate::fault::tell_fault;
+use crate::telling::{FAULT, NO_MEMORY, tell, tell_script_fault};
 use crate::tree::tell_tree;
 use crate::words::root_of as named_root;
 use bk_desk::{Desk, Source};
@@ -27,7 +29,6 @@ use bk_run::{InputFault, Stop, read_input, tell_replies};
 use bk_script::{Command, read_script};
 use ed_session::{Session, StartFault, start};
 use std::alloc::Global;
-use std::mem;
 use std::sync::ledger::Ledger;
 use xt_lex::Steps;
 
@@ -40,19 +41,19 @@ const JOURNAL_LINE: &[u8] = b"fault journal\n";
 /// Carries out the commands over a session, and tells their replies and the tree.
 fn run_session<D: Desk, L: Ledger>(
     alloc: Global,
-    session: &mut Session,
+    mut session: Session,
     commands: &[Command],
     desk: &mut D,
     steps: &mut Steps<L>,
 ) -> u8
     requires current { IsTrue D.tells → IsClosed (D.standing desk.old) }
     ensures value { (result ≡ 0) ⊎ ((result ≡ 1) ⊎ ((result ≡ 6) ⊎ (result ≡ 7))) }
-    ensures output { IsTrue D.tells → (start : DiskState) → IsStarted session.old.root start (D.standing desk.old) session.old
-        → IsSessionRun session.old.root (map command_of commands.now) (D.standing desk.old) (D.standing desk.new) (AtEachCrash D.time D.was desk.old desk.new) result }
+    ensures output { IsTrue D.tells → (start : DiskState) → IsStarted session.entry.root start (D.standing desk.old) session.entry
+        → IsSessionRun session.entry.root (map command_of commands.now) (D.standing desk.old) (D.standing desk.new) (AtEachCrash D.time D.was desk.old desk.new) result }
     ensures cause_desk { HasCause (D.faults desk.old) (D.faults desk.new) (result ≡ 6) }
     ensures count { (steps.old ≤ steps.new) × (steps.new ≤ steps.old + length commands.now * 4194304) }
 {
-    match tell_replies(alloc, session, commands, desk, steps) {
+    match tell_replies(alloc, &mut session, commands, desk, steps) {
         Ok(refused) => tell_tree(alloc, session, refused, desk),
         Err(Stop::Fault) => FAULT,
         Err(Stop::NoMemory) => NO_MEMORY,
@@ -75,16 +76,10 @@ fn run_book<D: Desk, L: Ledger>(
     ensures exact { IsTrue D.tells → (bytes : List ℕ) → IsScript bytes (map command_of commands.now) → TakesRunSteps (Some root.now) bytes (D.standing desk.old).files result steps.old steps.new }
 {
     match start(alloc, desk, root, steps) {
-        Ok(mut session) => {
-            let status = run_session(alloc, &mut session, commands, desk, steps);
-            // The process ends now. To take a tree of many items apart first is a fourteenth of its time.
-            mem::forget(session);
-            status
-        }
+        Ok(session) => run_session(alloc, session, commands, desk, steps),
         Err(StartFault::Desk) => FAULT,
         Err(StartFault::Journal) => tell(desk, JOURNAL_LINE, 8),
-        Err(StartFault::Missing) => tell_closed(alloc, b"fault Missing ", root, desk),
-        Err(StartFault::NotYet) => tell_closed(alloc, b"fault NotYet ", root, desk),
+        Err(StartFault::Book(fault)) => tell_fault(alloc, &fault, desk),
         Err(StartFault::NoMemory) => NO_MEMORY,
     }
 }
@@ -169,8 +164,8 @@ fn run_words<D: Desk, S: Source, L: Ledger>(
 /// line that says why not. The order is: the words; the script to its end, and its lines; the recovery of the book; its root; the
 /// commands, each reply before the next command; the tree.
 ///
-/// The answer is the exit status: 0, or 1 where a command was refused; 2 for words without a reading, 3 for a root that is not
-/// there or no plain document, 4 for a script without a reading, 8 for a damaged journal; 5 where the source of the script
+/// The answer is the exit status: 0, or 1 where a command was refused; 2 for words without a reading, 3 for a root that does
+/// not open, 4 for a script without a reading, 8 for a damaged journal; 5 where the source of the script
 /// failed, 6 where the disk or the output did, 7 where memory was wanting. Where no count of faults rose it is the status of the
 /// definition, or 7.
 pub fn run<D: Desk, S: Source, L: Ledger>(
@@ -205,10 +200,10 @@ pub fn run<D: Desk, S: Source, L: Ledger>(
     ensures none { (left : List ℕ) → S.left script.old ≡ Some left → IsTrue (is_book_status result) → S.left script.new ≡ Some [] }
     ensures keeps { root_of (map string_bytes words.now) ≡ None → script.new ≡ script.old }
     // An edit that is accepted gives the text at its place the new value, and leaves all other nodes (`ed_laws`).
-    ensures law { (file uri : List ℕ) (items others : Items) (nodes : Nodes) (place : List ℕ) (from to : ℕ) (new : List ℕ)
-        → GivesNodes file uri items nodes → Accepts items (text_edit place from to new) others
+    ensures law { (file : List ℕ) (context : Context) (count : ℕ) (items others : Items) (nodes : Nodes) (place : List ℕ) (from to : ℕ) (new : List ℕ)
+        → GivesNodes file context count items nodes → Accepts items (text_edit place from to new) others
         → (path characters : List ℕ) × IsInText items place from to path characters
-        × GivesNodes file uri others (text_set nodes place (encode_utf8_all (range_replaced characters from to new))) }
+        × GivesNodes file context count others (text_set nodes place (encode_utf8_all (range_replaced characters from to new))) }
     ensures count { steps.old ≤ steps.new }
     ensures exact { IsTrue D.tells → (left : List ℕ) → S.left script.old ≡ Some left
         → TakesRunSteps (root_of (map string_bytes words.now)) left (D.standing desk.old).files result steps.old steps.new }

@@ -1,5 +1,5 @@
 //! A text is told, and the exit status that comes with it is the answer.
-ghost use Rattle.std.specs.Prelude.{◌≡◌, ◌≢◌, ◌⊎◌, ◌++◌, ℕ, List, IsTrue, IfOk, codes};
+ghost use Rattle.std.specs.Prelude.{◌≡◌, ◌≢◌, ◌⊎◌, ℕ, List, IsTrue, IfOk};
 ghost use Rattle.bk_desk.specs.CrashPoints.{AtEachCrash};
 ghost use Rattle.bk_desk.specs.Cause.{HasCause};
 ghost use Rattle.book_cli.specs.Output.{IsScriptLine};
@@ -7,8 +7,7 @@ ghost use Rattle.book_cli.specs.Leaves.{KeepsFiles};
 ghost use Rattle.book_cli.specs.Ends.{IsToldWith};
 
 use bk_desk::{Desk, DeskErr};
-use bk_name::Name;
-use bk_run::{line, numbered};
+use bk_run::numbered;
 use bk_script::ScriptFault;
 use std::alloc::{AllocError, Global};
 
@@ -29,18 +28,6 @@ pub(crate) fn tell<D: Desk>(desk: &mut D, text: &[u8], status: u8) -> u8
         Ok(()) => status,
         Err(DeskErr::Failed) => FAULT,
         Err(DeskErr::NoMemory) => NO_MEMORY,
-    }
-}
-
-/// Tells the line that says why a root did not open.
-pub(crate) fn tell_closed<D: Desk>(alloc: Global, front: &[u8], root: &Name, desk: &mut D) -> u8
-    ensures value { (result ≡ 3) ⊎ ((result ≡ 6) ⊎ (result ≡ 7)) }
-    ensures output { IsTrue D.tells → IsToldWith 3 (front.now ++ root.now ++ codes "\n") (D.standing desk.old) (D.standing desk.new) (AtEachCrash D.time D.was desk.old desk.new) result }
-    ensures cause_desk { HasCause (D.faults desk.old) (D.faults desk.new) (result ≡ 6) }
-{
-    match line(alloc, front, root.as_str().as_bytes()) {
-        Ok(text) => tell(desk, &text, 3),
-        Err(_) => NO_MEMORY,
     }
 }
 

@@ -3,7 +3,7 @@ ghost use Rattle.std.specs.Prelude.{◌≡◌, ◌⊎◌, ◌++◌, ℕ, List, S
 ghost use Rattle.bk_desk.specs.CrashPoints.{AtEachCrash};
 ghost use Rattle.bk_desk.specs.Cause.{HasCause};
 ghost use Rattle.ed_spec.specs.Book.{Book};
-ghost use Rattle.book_cli.specs.Output.{file_uri, IsTree};
+ghost use Rattle.book_cli.specs.Output.{IsTree};
 ghost use Rattle.book_cli.specs.Ends.{IsToldWith};
 
 use crate::telling::{NO_MEMORY, tell};
@@ -11,22 +11,17 @@ use bk_desk::Desk;
 use bk_place::print;
 use ed_session::Session;
 use std::alloc::{AllocError, Global};
-
-fn uri_of(alloc: Global, file: &[u8]) -> Result<Vec<u8>, AllocError>
-    ensures value { IfOk result (λ uri. uri.items ≡ file_uri file.now) }
-{
-    let mut uri = Vec::from_slice(alloc, b"file:///book/")?;
-    uri.extend_from_slice(file)?;
-    Ok(uri)
-}
+use std::mem;
 
 /// The tree of the root as it was edited.
-fn tree_of(alloc: Global, session: &Session) -> Result<Vec<u8>, AllocError>
-    ensures value { IfOk result (λ text. (book : Book) → book session.now.root ≡ Some session.now.bytes → IsTree session.now.root book text.items) }
+fn tree_of(alloc: Global, session: Session) -> Result<Vec<u8>, AllocError>
+    ensures value { IfOk result (λ text. (book : Book) → book session.entry.root ≡ Some session.entry.bytes → IsTree session.entry.root book text.items) }
 {
-    let file = session.root().as_str().as_bytes();
-    let uri = uri_of(alloc, file)?;
-    print(alloc, file, &uri, session.bytes(), session.items())
+    let nodes = session.into_tree()?;
+    let text = print(alloc, nodes.as_slice())?;
+    // The process ends soon. To take a tree of many nodes apart first takes a good part of its time.
+    mem::forget(nodes);
+    Ok(text)
 }
 
 /// 1 where a command was refused.
@@ -39,12 +34,12 @@ fn status_of(refused: bool) -> u8
 /// Tells the tree of a root, and gives the status of a run whose commands were carried out.
 pub(crate) fn tell_tree<D: Desk>(
     alloc: Global,
-    session: &Session,
+    session: Session,
     refused: bool,
     desk: &mut D,
 ) -> u8
     ensures value { (result ≡ 0) ⊎ ((result ≡ 1) ⊎ ((result ≡ 6) ⊎ (result ≡ 7))) }
-    ensures output { IsTrue D.tells → (book : Book) (tree : List ℕ) → book session.now.root ≡ Some session.now.bytes → IsTree session.now.root book tree
+    ensures output { IsTrue D.tells → (book : Book) (tree : List ℕ) → book session.entry.root ≡ Some session.entry.bytes → IsTree session.entry.root book tree
         → IsToldWith (if refused then 1 else 0) tree (D.standing desk.old) (D.standing desk.new) (AtEachCrash D.time D.was desk.old desk.new) result }
     ensures cause_desk { HasCause (D.faults desk.old) (D.faults desk.new) (result ≡ 6) }
 {

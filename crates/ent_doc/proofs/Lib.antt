@@ -1,1 +1,15 @@
+mod NodeLemmas
+mod FaultLemmas
+mod LeafLemmas
+mod PlaceLemmas
+mod ElementLemmas
+mod ItemLemmas
+mod TagLemmas
+mod DocumentLemmas
+mod AroundLemmas
+mod DistinctLemmas
+mod AttributeLemmas
+mod OwnLemmas
 pub mod OpeningLemmas
+pub mod OnceLemmas
+pub mod Theorems

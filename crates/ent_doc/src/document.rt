@@ -9,11 +9,31 @@ ghost use Rattle.bk_info.specs.Nodes.{nodes_in};
 ghost use Rattle.ent_doc.specs.Faults.{IsNodesFault};
 
 use crate::fault::OpenFault;
-use bk_info::Node;
-use bk_name::Name;
+use crate::source::Source;
+use crate::tree::nodes_of;
+use crate::work::Work;
+use bk_info::{Context, Node};
+use bk_name::{Base, Name, uri_of};
 use sqlite_items::Items;
-use std::alloc::Global;
+use std::alloc::{AllocError, Global};
+use xt_table::SharedText;
 use xt_tree::Src;
+use xt_value::Scope;
+
+/// The base that is assumed.
+const BOOK_BASE: &str = "file:///book/";
+
+/// What a document of this file begins with. The one error is want of memory.
+fn top(alloc: Global, file: &Name) -> Result<Context, AllocError>
+    ensures value { IfOk result (λ context. context ≡ top_context file.now) }
+{
+    let Ok(base) = Base::read(alloc, BOOK_BASE) else {
+        return Err(AllocError);
+    };
+    let scope = Scope::new(alloc)?;
+    let uri = uri_of(alloc, &base, file)?;
+    Context::new(alloc, scope, uri, SharedText::from_str(alloc, "")?)
+}
 
 /// The nodes that the items of a document give, or its first fault in document order.
 ///
@@ -28,5 +48,8 @@ pub fn document_nodes(
     ensures value { IfOk result (λ nodes. (content : Content) → HasContent (items_in text.now items.now) content → nodes_of file.now (top_context file.now) 0 content ≡ Ok (nodes_in nodes)) }
     ensures fault { IfErr result (IsNodesFault file.now (items_in text.now items.now)) }
 {
-    Err(OpenFault::NoMemory)
+    let source = Source::new(alloc, file, text)?;
+    let context = top(alloc, file)?;
+    let mut work = Work::new(alloc);
+    nodes_of(alloc, &source, &mut work, &context, items)
 }

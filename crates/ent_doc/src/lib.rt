@@ -3,11 +3,23 @@
 //! So far of documents that need no declaration, and of one file. What a reading is, is for `xt_read`.
 #![tactic(auto)]
 
+mod around;
+mod attribute;
+mod distinct;
 mod document;
+mod element;
 mod fault;
 mod inclusion;
+mod laws;
+mod leaf;
+mod names;
 mod opening;
+mod source;
+mod tag;
+mod tree;
+mod work;
 
 pub use document::document_nodes;
 pub use fault::OpenFault;
+pub use laws::{a_document_opens_once, an_open_document_has_no_fault, one_document_fault};
 pub use opening::{Opened, open_document};

@@ -1,13 +1,18 @@
 -- Character data at the front of a text.
-use Rattle.std.proofs.Common.{zero, suc, ◌≡◌, ◌≢◌, ℕ, ◌+◌, ◌<◌, ◌≤◌, List, ◌++◌, length, get_or, take, drop, ap, sym, subst, ◌∙◌, arith, inl, inr, Option, Some, None, le_refl, encode_utf8, codes}
-use Rattle.std.proofs.lemmas.Bool.{cases_lt, cases_eq, not-true}
+use Rattle.std.proofs.Common.{zero, suc, ◌≡◌, ◌≢◌, ℕ, ◌+◌, ◌<◌, ◌≤◌, List, ◌++◌, length, get_or, take, drop, ap, sym, subst, ◌∙◌, arith, inl, inr, Option, Some, None, le_refl, encode_utf8, codes, true, false, IsUtf8}
+use Rattle.std.proofs.lemmas.Bool.{cases_lt, cases_eq, not-true, and_parts}
 use Rattle.std.proofs.lemmas.List.{take_all, get_or_past, get_or-take, length-take-le, take-append-drop, drop-append-le, take-take, append_assoc}
 use Rattle.std.proofs.lemmas.List.Prefix.{at_reads, at_from_reads}
+use Rattle.std.proofs.lemmas.List.Folds.{list_all_at}
+use Rattle.std.specs.List.{list_all}
 use Rattle.std.specs.Str.{IsCharBoundary, NoCharPasses}
 use Rattle.std.specs.Option.{unwrap_or}
 use Rattle.memchr.specs.Find.{FindsNeedle, OccursAt}
 use Rattle.std.specs.Str.Pattern.{FindsBy}
 use Rattle.xt_spec.specs.Token.{BeginsClose, NoCloseBelow}
+use Rattle.xt_lex.specs.Fast.{is_sound_byte, is_data_byte}
+use Rattle.xt_lex.proofs.Sound.{sound_first_chars}
+use Rattle.xt_lex.proofs.Spelling.{list_all_weaker}
 use Rattle.xt_lex.specs.Data.{is_no_char, AreFirstChars, IsDelimiter, IsFirstDelimiter, IsFirstClose, IsFirstData}
 
 pub first_chars_some : (s : List ℕ) (i j : ℕ) → FindsBy is_no_char s (Some (i, j)) → i ≤ j → IsCharBoundary s i → AreFirstChars s i
@@ -144,3 +149,28 @@ first_data s m n i d c a =
             ])
       ];
     }
+
+-- .. where the text before the delimiter was cut off
+pub front_data : (s front inner : List ℕ) (m n i : ℕ) → front ≡ take m s → inner ≡ take n front → IsFirstDelimiter s m → IsFirstClose front n → AreFirstChars inner i → IsFirstData s i
+front_data s front inner m n i is within d c a =
+    let size : length front ≡ m = ap length is ∙ length-take-le m s d.within in
+    let below : n ≤ m = omega (arith, c.within, size) in
+    first_data s m n i d (subst (λ t. IsFirstClose t n) is c) (subst (λ t. AreFirstChars t i) (within ∙ ap (take n) is ∙ take-take n m s below) a)
+
+-- bytes without a `]` hold no `]]>`
+no_close_among : (t : List ℕ) → list_all is_data_byte t ≡ true → (k : ℕ) → ¬ BeginsClose (drop k t)
+no_close_among t all k closes =
+    let reads = close_reads t k closes in
+    let fits = close_fits t k reads.2 in
+    let fails : is_data_byte (get_or t k 0) ≡ false = ap is_data_byte reads.0 in
+    let never : list_all is_data_byte t ≡ false = list_all_at is_data_byte t k 0 (omega (arith, fits)) fails in
+    absurd (cc)
+
+-- where each byte before the first delimiter passes the fast test, all of them are character data
+pub sound_data : (s front : List ℕ) (m : ℕ) → front ≡ take m s → IsUtf8 front → IsFirstDelimiter s m → list_all is_data_byte front ≡ true → IsFirstData s (length front)
+sound_data s front m is utf8 d all =
+    let size : length (take m s) ≡ m = length-take-le m s d.within in
+    let close : IsFirstClose (take m s) m = record { within = omega (arith, size); unclosed = λ k below. no_close_among (take m s) (subst (λ t. list_all is_data_byte t ≡ true) is all) k; stops = λ more. absurd (omega (arith, more, size)) } in
+    let sound = sound_first_chars front utf8 (list_all_weaker is_data_byte is_sound_byte (λ b both. (and_parts _ _ both).0) front all) in
+    let length_is : length front ≡ m = ap length is ∙ size in
+    subst (IsFirstData s) (sym length_is) (first_data s m m m d close (subst (λ t. AreFirstChars t m) is (subst (AreFirstChars front) length_is sound)))

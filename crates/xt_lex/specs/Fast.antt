@@ -7,7 +7,11 @@ use Rattle.xt_spec.specs.Char.{is_within}
 abbrev pub is_sound_byte : ℕ → Bool
 is_sound_byte b = (nat_le 0x20 b && not (b == 0xEF)) || b == 0x9 || b == 0xA || b == 0xD
 
--- .. and none of them is `<`
+-- .. and none of them is `]`, so that no `]]>` stands among them
+abbrev pub is_data_byte : ℕ → Bool
+is_data_byte b = is_sound_byte b && not (b == 0x5D)
+
+-- such characters, and none of them is `<`
 abbrev pub is_attr_byte : ℕ → Bool
 is_attr_byte b = is_sound_byte b && not (b == 0x3C)
 

@@ -2,7 +2,7 @@
 
 ghost use Rattle.std.specs.Prelude.{◌≡◌};
 ghost use Rattle.std.specs.List.{list_all};
-ghost use Rattle.xt_lex.specs.Fast.{is_sound_byte};
+ghost use Rattle.xt_lex.specs.Fast.{is_sound_byte, is_data_byte};
 ghost use Rattle.xt_lex.specs.Scan.{are_chars};
 ghost use Rattle.xt_lex.specs.Data.{AreFirstChars, IsFirstDelimiter, IsFirstClose, IsFirstData};
 
@@ -67,11 +67,25 @@ fn close_at(bytes: &[u8]) -> usize
     memmem::find(bytes, b"]]>").unwrap_or(bytes.len())
 }
 
+/// A fast test, which most character data passes. It has no early end, so that many bytes are tested at a time.
+fn are_data_bytes(bytes: &[u8]) -> bool
+    ensures { result ≡ list_all is_data_byte bytes.now }
+{
+    let mut sound = true;
+    for b in bytes {
+        sound &= is_sound_byte(*b) & (*b != b']');
+    }
+    sound
+}
+
 /// How many bytes at the front are character data.
 pub(crate) fn data_len(text: &str) -> usize
     ensures { IsFirstData text.now result }
 {
-    let bytes = text.as_bytes();
-    let end = close_at(&bytes[..delimiter_at(bytes)]);
-    chars_len(&text[..end])
+    let front = &text[..delimiter_at(text.as_bytes())];
+    if are_data_bytes(front.as_bytes()) {
+        return front.len();
+    }
+    let end = close_at(front.as_bytes());
+    chars_len(&front[..end])
 }

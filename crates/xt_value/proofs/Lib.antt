@@ -1,2 +1,14 @@
+pub mod ContentLemmas
+pub mod LineLemmas
+pub mod MarkupLemmas
 pub mod NameParts
+pub mod PartLemmas
+pub mod References
 pub mod ScopeLemmas
+pub mod Searches
+pub mod Sections
+pub mod Theorems
+pub mod TokenLemmas
+pub mod UniqueLemmas
+pub mod ValueLemmas
+pub mod VoidLemmas

@@ -5,16 +5,22 @@
 #![tactic(auto)]
 
 mod attribute;
+mod cuts;
 mod expanded;
+mod laws;
+mod lines;
 mod markup;
 mod named;
+mod reference;
 mod scope;
 #[cfg(test)]
 mod tests;
 mod text;
+mod tokens;
 
 pub use attribute::attribute_value;
 pub use expanded::{Expanded, NameFault, expand_name, is_declaration, prefix_of};
+pub use laws::{one_attribute_value, one_content, one_text_value, void_is_empty};
 pub use markup::{PiParts, comment_text, pi_parts};
 pub use named::NamedText;
 pub use scope::{Scope, ScopeFault, scope_of};

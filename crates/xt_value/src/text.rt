@@ -1,7 +1,50 @@
-ghost use Rattle.std.specs.Prelude.{◌≡◌, List, ℕ, IfOk, string_bytes};
+//! The value of a text item, from left to right: what stands before the first `&` or `<`, or the reference or the CDATA
+//! section at the front.
+ghost use Rattle.std.specs.Prelude.{◌≡◌, ◌≢◌, ◌<◌, List, ℕ, [], ◌∷◌, false, length, IfOk, string_bytes};
 ghost use Rattle.xt_spec.specs.Text.{IsTextItem, HasTextValue};
+ghost use Rattle.xt_value.specs.Parts.{is_mark, Adds, PutsData, PutsSection};
 
+use crate::cuts::{split_data, split_section};
+use crate::lines::put_lines;
+use crate::reference::put_reference;
 use std::alloc::{AllocError, Global};
+
+/// The characters of the CDATA section at the front; what follows it.
+fn put_section<'a>(out: &mut String, text: &'a str) -> Result<&'a str, AllocError>
+    ensures value { IfOk result (λ rest. PutsSection text.now rest.now (string_bytes out.old) (string_bytes out.new)) }
+    ensures shorter { text.now ≢ [] → IfOk result (λ rest. length rest.now < length text.now) }
+{
+    match split_section(text) {
+        Some((characters, rest)) => {
+            put_lines(out, characters)?;
+            Ok(rest)
+        }
+        None => Ok(""),
+    }
+}
+
+/// The characters before the first reference or CDATA section; what follows them.
+fn put_data<'a>(out: &mut String, text: &'a str) -> Result<&'a str, AllocError>
+    ensures value { IfOk result (λ rest. PutsData text.now rest.now (string_bytes out.old) (string_bytes out.new)) }
+    ensures shorter { (b : ℕ) (behind : List ℕ) → text.now ≡ b ∷ behind → is_mark b ≡ false → IfOk result (λ rest. length rest.now < length text.now) }
+{
+    let (data, rest) = split_data(text);
+    put_lines(out, data)?;
+    Ok(rest)
+}
+
+/// The part at the front; what follows it.
+fn put_part<'a>(out: &mut String, text: &'a str) -> Result<&'a str, AllocError>
+    ensures value { IfOk result (λ rest. Adds HasTextValue text.now rest.now (string_bytes out.old) (string_bytes out.new)) }
+    ensures shorter { text.now ≢ [] → IfOk result (λ rest. length rest.now < length text.now) }
+{
+    match text.as_bytes() {
+        [b'&', ..] => put_reference(out, text),
+        [b'<', ..] => put_section(out, text),
+        [_, ..] => put_data(out, text),
+        [] => Ok(text),
+    }
+}
 
 /// The value of a text item of a file: `a&lt;b<![CDATA[<]]>` and CR LF have the value `a<b<` and LF.
 ///
@@ -10,5 +53,10 @@ pub fn text_value(alloc: Global, text: &str) -> Result<String, AllocError>
     ensures value { IsTextItem text.now → IfOk result (λ value. HasTextValue text.now (string_bytes value)) }
     ensures exact { IfOk result (λ value. (other : List ℕ) → HasTextValue text.now other → other ≡ string_bytes value) }
 {
-    Err(AllocError)
+    let mut out = String::with_capacity(alloc, text.len())?;
+    let mut rest = text;
+    while !rest.is_empty() {
+        rest = put_part(&mut out, rest)?;
+    }
+    Ok(out)
 }

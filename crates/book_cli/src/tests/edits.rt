@@ -93,6 +93,30 @@ const EDITS: &[Edit] = &[
         after: "<a></a>",
         calls: 14,
     },
+    Edit {
+        root: "<a>a<![CDATA[<]]>b</a>",
+        script: "text /1/1 1 2 \">\"\nburst",
+        replies: "ok\nburst 1\n",
+        tree: "  text \"a>b\" in book.xml\n",
+        after: "<a>a&gt;b</a>",
+        calls: 14,
+    },
+    Edit {
+        root: "\u{FEFF}<?xml version='1.0'?>\r\n<a x = '1' >\r\n  <![CDATA[]]><?p q?>b\r\nc<!-- - --></a >\r\n<?z?>",
+        script: "text /1/3 1 2 \"-\"\nburst",
+        replies: "ok\nburst 1\n",
+        tree: "  attribute x=\"1\"\n  text \"\\n  \" in book.xml\n  pi p \"q\" in book.xml\n  text \"b-c\" in book.xml\n  comment \" - \" in book.xml\npi z \"\" in book.xml\n",
+        after: "\u{FEFF}<?xml version='1.0'?>\r\n<a x = '1' >\r\n  <![CDATA[]]><?p q?>b-c<!-- - --></a >\r\n<?z?>",
+        calls: 14,
+    },
+    Edit {
+        root: "<a xmlns:p='u:1'><![CDATA[]]><p:b p:n='1'>x</p:b></a>",
+        script: "text /1/1/1 0 1 \"y\"\nburst",
+        replies: "ok\nburst 1\n",
+        tree: "  element {u:1}b in book.xml\n    attribute {u:1}n=\"1\"\n    text \"y\" in book.xml\n",
+        after: "<a xmlns:p='u:1'><![CDATA[]]><p:b p:n='1'>y</p:b></a>",
+        calls: 14,
+    },
 ];
 
 /// What is not saved is in the tree alone; a file is saved where it differs from what was last saved.

@@ -125,7 +125,7 @@ fn the_root_is_the_recovered_one(rt: HostRuntime) -> Result<(), Fail> {
             Some(b"<a/>".as_slice()),
             spoiled,
             3,
-            "fault NotYet book.xml\n",
+            "fault NotWellFormed book.xml\n",
             Some(b"<".as_slice()),
         ),
     ] {

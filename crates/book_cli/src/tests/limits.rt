@@ -4,13 +4,14 @@ use std::alloc::Global;
 use std::process::Abort;
 use std::test::Fail;
 
-/// A document that opens with the tree of these parts, and one that is too large.
+/// A document that opens with the tree of these parts, and one that doesn't, with the line that is told of it.
 fn check_limit<'a>(
     rt: &impl Abort,
     alloc: Global,
     greatest: &'a str,
     tree: &'a [&'a str],
     greater: &'a str,
+    line: &'a str,
 ) -> Result<(), Fail> {
     let case = over(greatest, "");
     let opens = Want {
@@ -23,7 +24,7 @@ fn check_limit<'a>(
     let case = over(greater, "");
     let closed = Want {
         status: 3,
-        told: &["fault NotYet book.xml\n"],
+        told: &[line],
         calls: 4,
         root: case.root,
     };
@@ -58,7 +59,14 @@ fn no_two_of_many_attributes_have_one_name(rt: HostRuntime) -> Result<(), Fail> 
     }
     let one = repeated(alloc, document.as_str(), "/>", 1, "")?;
     let twice = repeated(alloc, document.as_str(), " k=''/>", 1, "")?;
-    check_limit(&rt, alloc, one.as_str(), &[tree.as_str()], twice.as_str())
+    check_limit(
+        &rt,
+        alloc,
+        one.as_str(),
+        &[tree.as_str()],
+        twice.as_str(),
+        "fault NotWellFormed book.xml\n",
+    )
 }
 
 #[test]
@@ -72,6 +80,7 @@ fn level_128_opens_and_129_does_not(rt: HostRuntime) -> Result<(), Fail> {
         greatest.as_str(),
         &[tree.as_str()],
         greater.as_str(),
+        "fault TooDeep book.xml\n",
     )
 }
 
@@ -82,7 +91,14 @@ fn a_file_of_4194304_bytes_opens_and_a_longer_one_does_not(rt: HostRuntime) -> R
     let greatest = repeated(alloc, "<a>", text.as_str(), 1, "</a>")?;
     let greater = repeated(alloc, "<a>x", text.as_str(), 1, "</a>")?;
     let tree = [HEAD, "  text \"", text.as_str(), "\" in book.xml\n"];
-    check_limit(&rt, alloc, greatest.as_str(), &tree, greater.as_str())
+    check_limit(
+        &rt,
+        alloc,
+        greatest.as_str(),
+        &tree,
+        greater.as_str(),
+        "fault TooLarge book.xml\n",
+    )
 }
 
 #[test]
@@ -97,6 +113,7 @@ fn a_million_nodes_open_and_one_more_do_not(rt: HostRuntime) -> Result<(), Fail>
         greatest.as_str(),
         &[HEAD, lines.as_str()],
         greater.as_str(),
+        "fault TooLarge book.xml\n",
     )
 }
 

@@ -109,11 +109,11 @@ fn a_name_has_at_most_255_bytes(rt: HostRuntime) -> Result<(), Fail> {
 
 // An empty book.xml is there, and reads as no document; without one nothing is there to read.
 #[test]
-fn a_root_is_missing_or_not_yet_read(rt: HostRuntime) -> Result<(), Fail> {
+fn a_root_is_missing_or_reads_as_no_document(rt: HostRuntime) -> Result<(), Fail> {
     let alloc = rt.alloc();
     for (root, status, told, calls) in [
         (None, 3, ["fault Missing book.xml\n", ""], 4),
-        (Some(b"".as_slice()), 3, ["fault NotYet book.xml\n", ""], 4),
+        (Some(b"".as_slice()), 3, ["fault NotWellFormed book.xml\n", ""], 4),
         (Some(b"<a/>".as_slice()), 0, [HEAD, ""], 4),
     ] {
         let case = Case {

@@ -6,7 +6,9 @@ use Rattle.jr_burst.specs.Recover.{IsStartOrRecovered}
 use Rattle.bk_script.specs.View.{command_of}
 use Rattle.ed_session.specs.Start.{IsStarted}
 use Rattle.bk_run.proofs.DoingLemmas.{told_stays}
-use Rattle.book_cli.specs.Output.{missing_line, not_yet_line, missing, not_yet}
+use Rattle.bk_spec.specs.Fault.{fault_line}
+use Rattle.bk_info.specs.Nodes.{fault_in}
+use Rattle.book_cli.specs.Output.{closed}
 use Rattle.book_cli.specs.Ends.{IsSessionRun}
 use Rattle.book_cli.proofs.RunLemmas.{opened_run, closed_run, damaged_run, failed_run, opened_steps}
 use Rattle.book_cli.proofs.run.run_book.Goals as goal
@@ -49,18 +51,10 @@ returns-in-Err-Journal-clause-output g c = λ h bytes reads.
     let fault = rw c.in-Err-Journal.field-0-is at (c.in-Err-Journal.ensures.fault h) in
     damaged_run g.D.Desk.standing g.D.Desk.time g.D.Desk.was c.args.root.now bytes (map command_of c.args.commands.now) c.args.desk.now c.start.new.desk c.tell.new.desk c.tell.result reads fault.0 fault.1 (c.start.ensures.crash h) (c.tell.ensures.output h)
 
-pub returns-in-Err-Missing-clause-output : goal.returns-in-Err-Missing-clause-output
-returns-in-Err-Missing-clause-output g c = λ h bytes reads.
+pub returns-in-Err-Book-clause-output : goal.returns-in-Err-Book-clause-output
+returns-in-Err-Book-clause-output g c = λ h bytes reads.
     let root = c.args.root.now in
-    let is = rw c.in-Err-Missing.field-0-is at (c.in-Err-Missing.ensures.fault h) in
-    closed_run g.D.Desk.standing g.D.Desk.time g.D.Desk.was root bytes (missing_line root) (map command_of c.args.commands.now) c.args.desk.now c.start.new.desk c.tell_closed.new.desk c.tell_closed.result reads is.recovered
-    (missing is.none refl refl refl) (c.start.ensures.crash h)
-    (c.tell_closed.ensures.output h)
-
-pub returns-in-Err-NotYet-clause-output : goal.returns-in-Err-NotYet-clause-output
-returns-in-Err-NotYet-clause-output g c = λ h bytes reads.
-    let root = c.args.root.now in
-    let is = rw c.in-Err-NotYet.field-0-is at (c.in-Err-NotYet.ensures.fault h) in
-    closed_run g.D.Desk.standing g.D.Desk.time g.D.Desk.was root bytes (not_yet_line root) (map command_of c.args.commands.now) c.args.desk.now c.start.new.desk c.tell_closed-in-Err-NotYet.new.desk c.tell_closed-in-Err-NotYet.result reads is.recovered
-    (not_yet is.document.bytes is.document.found is.document.never refl refl refl) (c.start.ensures.crash h)
-    (c.tell_closed-in-Err-NotYet.ensures.output h)
+    let is = rw c.in-Err-Book.field-0-is at (c.in-Err-Book.ensures.fault h) in
+    closed_run g.D.Desk.standing g.D.Desk.time g.D.Desk.was root bytes (fault_line (fault_in c.in-Err-Book.fault)) (map command_of c.args.commands.now) c.args.desk.now c.start.new.desk c.tell_fault.new.desk c.tell_fault.result reads is.recovered
+    (closed (fault_in c.in-Err-Book.fault) is.cause refl refl refl) (c.start.ensures.crash h)
+    (c.tell_fault.ensures.output h)

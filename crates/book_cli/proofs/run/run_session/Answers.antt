@@ -10,7 +10,7 @@ use Rattle.book_cli.proofs.run.run_session.Goals as goal
 
 pub returns-in-Ok-clause-output : goal.returns-in-Ok-clause-output
 returns-in-Ok-clause-output g c = λ h start is.
-    let k = c.args.session.now in
+    let k = c.args.session in
     let now = c.tell_replies.new.session in
     let commands = c.args.commands.now in
     let old = g.D.Desk.standing c.args.desk.now in
@@ -27,7 +27,7 @@ returns-in-Ok-clause-output g c = λ h start is.
 
 pub returns-in-Err-Fault-clause-output : goal.returns-in-Err-Fault-clause-output
 returns-in-Err-Fault-clause-output g c = λ h start is.
-    let k = c.args.session.now in
+    let k = c.args.session in
     let commands = c.args.commands.now in
     let old = g.D.Desk.standing c.args.desk.now in
     let s = opened k.root (book_files old.files) in
@@ -40,7 +40,7 @@ returns-in-Err-Fault-clause-output g c = λ h start is.
 
 pub returns-in-Err-NoMemory-clause-output : goal.returns-in-Err-NoMemory-clause-output
 returns-in-Err-NoMemory-clause-output g c = λ h start is.
-    let k = c.args.session.now in
+    let k = c.args.session in
     let commands = c.args.commands.now in
     let old = g.D.Desk.standing c.args.desk.now in
     let s = opened k.root (book_files old.files) in

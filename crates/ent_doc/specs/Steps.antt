@@ -1,0 +1,88 @@
+-- What the functions make, in steps: each makes what stands before a rest, and leaves the rest.
+--
+--   Fails            the result is the fault that is told
+--   prepended        nodes, and those behind them, where there was no fault
+--   Gives            the items up to a rest give these nodes
+--   GivesFault       the items have this fault
+--   IsAttrOf         the attribute of a name and a value
+--   attr_value       the value of the attribute of a name
+--   are_apart        no two attributes have one expanded name
+--   attribute_at     an attribute's name and value, at their spans
+--   AreTagsInPlace   each tag stands somewhere, with its parts at their spans
+use Rattle.std.specs.Prelude.{◌≡◌, ℕ, Bool, true, not, ◌&&◌, List, [], ◌∷◌, Option, None, Some, Result, Ok, Err, bytes_eq, if◌then◌else◌}
+use Rattle.std.specs.Borrow.{Bor}
+use Rattle.std.specs.List.{list_any}
+use Rattle.xt_spec.specs.Tree.{Items}
+use Rattle.xt_spec.specs.Namespace.{NamedValue, Binding, Expanded}
+use Rattle.xt_spec.specs.Content.{Content, HasContent}
+use Rattle.xt_spec.specs.Tag.{Attribute}
+use Rattle.xt_lex.specs.declared.attribute.AttrSrc.{AttrSrc}
+use Rattle.xt_tree.specs.Meaning.{at_span}
+use Rattle.xt_tree.specs.Places.{Mark, tag_mark, span_mark, IsTagAt}
+use Rattle.bk_spec.specs.Node.{Nodes, owned}
+use Rattle.bk_spec.specs.Fault.{Fault}
+use Rattle.bk_spec.specs.DocumentNodes.{Context, Element, and_then, named, attr_of, has_name, nodes_of}
+use Rattle.bk_info.specs.declared.attr.Attr.{Attr}
+use Rattle.bk_info.specs.declared.node.Node.{Node}
+use Rattle.bk_info.specs.Nodes.{attr_in, head_in, nodes_before, fault_in}
+use Rattle.ent_doc.specs.declared.fault.OpenFault.{OpenFault}
+use Rattle.ent_doc.specs.declared.fault.OpenFault.TheVariants.{Book, NoMemory}
+use Rattle.ent_doc.specs.declared.element.Own.{Own}
+
+-- the result is the fault that is told; want of memory may be told of any
+abbrev pub Fails : {A : Type 0} → Result A Fault → OpenFault → Type 0
+Fails result (Book fault) = result ≡ Err (fault_in fault)
+Fails result NoMemory = Unit {0}
+
+-- the nodes, and those behind them, where there was no fault
+abbrev pub prepended : List Node → Result Nodes Fault → Result Nodes Fault
+prepended nodes others = and_then (λ (rest : Nodes). Ok (nodes_before nodes rest)) others
+
+-- the items up to a rest give these nodes, with so many before them and so many before the rest
+abbrev pub Gives : List ℕ → Context → Items → Items → ℕ → ℕ → List Node → Type 0
+Gives file context items rest before behind nodes = (content : Content) → HasContent items content
+    → (others : Content) × HasContent rest others × (nodes_of file context before content ≡ prepended nodes (nodes_of file context behind others))
+
+-- the items have this fault, with so many nodes before them
+abbrev pub GivesFault : List ℕ → Context → Items → ℕ → OpenFault → Type 0
+GivesFault file context items before fault = (content : Content) → HasContent items content → Fails (nodes_of file context before content) fault
+
+-- the node, where there is one
+abbrev pub some_node : Option Node → List Node
+some_node None = []
+some_node (Some node) = node ∷ []
+
+-- an element's own and the context of what it holds, of what the code keeps
+abbrev pub element_in : List ℕ → Own → Element
+element_in file own = record { head = head_in own.name own.attrs own.context (owned file); context = own.context }
+
+-- the attribute of this name and value, as written in the file
+abbrev pub IsAttrOf : List ℕ → List Binding → NamedValue → Attr → Type 0
+IsAttrOf file scope value attr = (name : Expanded) × (named file scope true value.name ≡ Ok name) × (attr_in attr ≡ attr_of value name)
+
+-- the value of the attribute of this name, as written
+abbrev pub attr_value : List Attr → List ℕ → Option (List ℕ)
+attr_value [] name = None
+attr_value (a ∷ others) name = if bytes_eq a.qname name then Some a.value else attr_value others name
+
+-- what is compared of an attribute: the name of its namespace, and its local name
+abbrev pub attr_texts : Attr → List ℕ × List ℕ
+attr_texts attr = (attr.name.space, attr.name.local)
+
+abbrev pub key_texts : Bor (List ℕ) × Bor (List ℕ) → List ℕ × List ℕ
+key_texts key = (key.0.now, key.1.now)
+
+-- no two attributes have one expanded name
+abbrev pub are_apart : List Attr → Bool
+are_apart [] = true
+are_apart (a ∷ others) = not (list_any (λ other. has_name (attr_in a) (attr_in other)) others) && are_apart others
+
+-- an attribute's name and value, at their spans
+abbrev pub attribute_at : List ℕ → AttrSrc → Attribute
+attribute_at bytes source = record { space = []; name = at_span bytes source.name; equals = []; quoted = at_span bytes source.value }
+
+-- each of the tags stands somewhere in the bytes, with its parts at their spans
+abbrev pub AreTagsInPlace : List ℕ → List Mark → Type 0
+AreTagsInPlace bytes [] = Unit {0}
+AreTagsInPlace bytes (tag_mark tag ∷ marks) = ((at : ℕ) × IsTagAt bytes at tag) × AreTagsInPlace bytes marks
+AreTagsInPlace bytes (span_mark span ∷ marks) = AreTagsInPlace bytes marks

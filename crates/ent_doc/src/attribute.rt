@@ -1,0 +1,106 @@
+//! The attributes of an element. Namespaces in XML 1.0, sections 5 and 6.
+ghost use Rattle.std.specs.Prelude.{◌≡◌, ◌++◌, ◌∷◌, [], true, Ok, OnOk, IfOk, IfErr};
+ghost use Rattle.bk_spec.specs.DocumentNodes.{named};
+ghost use Rattle.bk_spec.specs.DocumentNodes as spec;
+ghost use Rattle.bk_info.specs.Nodes.{attrs_in};
+ghost use Rattle.ent_doc.specs.Steps.{Fails, IsAttrOf};
+
+use crate::distinct::are_distinct;
+use crate::fault::OpenFault;
+use crate::names::Names;
+use crate::source::Source;
+use bk_info::{Attr, How, NodeName};
+use std::alloc::{AllocError, Global};
+use xt_table::{SharedText, Txt};
+use xt_value::{NameFault, NamedText, Scope, expand_name, is_declaration};
+
+/// The local part of a name, whose text is shared with the name where it is all of it.
+fn local_text(
+    alloc: Global,
+    names: &mut Names,
+    qname: &SharedText,
+    local: &str,
+) -> Result<SharedText, AllocError>
+    ensures value { IfOk result (λ shared. shared ≡ local.now) }
+{
+    if qname.as_str() == local {
+        return qname.share();
+    }
+    names.text(alloc, local)
+}
+
+/// The attribute of a name and a value.
+fn attr_of(
+    alloc: Global,
+    source: &Source<'_>,
+    names: &mut Names,
+    scope: &Scope,
+    value: NamedText<'_>,
+) -> Result<Attr, OpenFault>
+    ensures value { IfOk result (IsAttrOf source.now.file.now scope.now value.entry) }
+    ensures fault { IfErr result (Fails (named source.now.file.now scope.now true value.entry.name)) }
+{
+    let written = value.name();
+    match expand_name(scope, written, true) {
+        Ok(name) => {
+            let qname = names.text(alloc, written)?;
+            let local = local_text(alloc, names, &qname, name.local())?;
+            Ok(Attr {
+                qname,
+                name: NodeName::new(name.share_space()?, local),
+                value: Txt::from_string(value.into_value()),
+                is_id: written == "xml:id",
+                how: How::Written,
+            })
+        }
+        Err(NameFault::Unbound) => Err(OpenFault::Book(source.unbound(alloc, written)?)),
+        Err(NameFault::NoMemory) => Err(OpenFault::NoMemory),
+    }
+}
+
+/// Puts an attribute behind others.
+fn put(attrs: &mut Vec<Attr>, attr: Attr) -> Result<(), AllocError>
+    ensures value { OnOk result (attrs.new.items ≡ attrs.old.items ++ attr ∷ []) }
+{
+    attrs.push(attr)?;
+    Ok(())
+}
+
+/// The attributes of a tag, in order; declarations are not among them.
+fn attrs_of(
+    alloc: Global,
+    source: &Source<'_>,
+    names: &mut Names,
+    scope: &Scope,
+    values: Vec<NamedText<'_>>,
+) -> Result<Vec<Attr>, OpenFault>
+    ensures value { IfOk result (λ attrs. spec.attrs_of source.now.file.now scope.now values.entry.items ≡ Ok (attrs_in attrs.items)) }
+    ensures fault { IfErr result (Fails (spec.attrs_of source.now.file.now scope.now values.entry.items)) }
+{
+    let mut attrs = Vec::with_capacity(alloc, values.len())?;
+    for value in values {
+        if !is_declaration(value.name()) {
+            put(&mut attrs, attr_of(alloc, source, names, scope, value)?)?;
+        }
+    }
+    Ok(attrs)
+}
+
+/// The attributes of a tag, where no two have one expanded name.
+pub(crate) fn distinct_attrs(
+    alloc: Global,
+    source: &Source<'_>,
+    names: &mut Names,
+    scope: &Scope,
+    values: Vec<NamedText<'_>>,
+) -> Result<Vec<Attr>, OpenFault>
+    ensures value { IfOk result (λ attrs. spec.distinct_attrs source.now.file.now scope.now values.entry.items ≡ Ok (attrs_in attrs.items)) }
+    ensures kept { IfOk result (λ attrs. spec.attrs_of source.now.file.now scope.now values.entry.items ≡ Ok (attrs_in attrs.items)) }
+    ensures fault { IfErr result (Fails (spec.distinct_attrs source.now.file.now scope.now values.entry.items)) }
+{
+    let attrs = attrs_of(alloc, source, names, scope, values)?;
+    if !are_distinct(alloc, attrs.as_slice())? {
+        return Err(OpenFault::Book(source.duplicate_attribute()?));
+    }
+    Ok(attrs)
+}

@@ -1,0 +1,93 @@
+//! The document whose nodes are made, and what is told of it.
+ghost use Rattle.std.specs.Prelude.{◌≡◌, IfOk, [], unwrap_or};
+ghost use Rattle.xt_spec.specs.Namespace.{prefix_of};
+ghost use Rattle.xt_tree.specs.Meaning.{at_span};
+ghost use Rattle.bk_spec.specs.Node.{owned};
+ghost use Rattle.bk_spec.specs.Fault as spec;
+ghost use Rattle.bk_info.specs.Nodes.{fault_in};
+
+use bk_info::{BookFault, Origin};
+use bk_name::Name;
+use std::alloc::{AllocError, Global};
+use xt_lex::Span;
+use xt_table::Txt;
+
+/// A document: its file, its text, and the origin of its nodes.
+#[derive(Drop)]
+pub(crate) struct Source<'a> {
+    pub(crate) file: &'a Name,
+    pub(crate) text: &'a str,
+    pub(crate) origin: Origin,
+    ghost owned: { origin ≡ owned file.now },
+}
+
+impl<'a> Source<'a> {
+    /// The document of this file and text. The one error is want of memory.
+    pub(crate) fn new(
+        alloc: Global,
+        file: &'a Name,
+        text: &'a str,
+    ) -> Result<Source<'a>, AllocError>
+        ensures file { IfOk result (λ source. source.file.now ≡ file.now) }
+        ensures text { IfOk result (λ source. source.text.now ≡ text.now) }
+    {
+        let origin = Origin::file(alloc, file.share()?)?;
+        Ok(Source { file, text, origin })
+    }
+
+    /// The text at a span; none where the span isn't one of characters.
+    pub(crate) fn text_at(&self, span: Span) -> Result<&'a str, AllocError>
+        ensures value { IfOk result (λ piece. piece.now ≡ at_span self.now.text.now span) }
+    {
+        match self.text.get(span.from as usize..span.to as usize) {
+            Some(piece) => Ok(piece),
+            None => Err(AllocError),
+        }
+    }
+
+    /// The file has too many nodes.
+    pub(crate) fn too_large(&self) -> Result<BookFault, AllocError>
+        ensures value { IfOk result (λ fault. fault_in fault ≡ spec.too_large self.now.file.now) }
+    {
+        Ok(BookFault::TooLarge {
+            file: self.file.share()?,
+        })
+    }
+
+    /// A namespace declaration isn't allowed.
+    pub(crate) fn bad_namespace(&self) -> Result<BookFault, AllocError>
+        ensures value { IfOk result (λ fault. fault_in fault ≡ spec.bad_namespace self.now.file.now) }
+    {
+        Ok(BookFault::BadNamespace {
+            file: self.file.share()?,
+        })
+    }
+
+    /// The prefix of this name isn't bound.
+    pub(crate) fn unbound(&self, alloc: Global, qname: &str) -> Result<BookFault, AllocError>
+        ensures value { IfOk result (λ fault. fault_in fault ≡ spec.unbound self.now.file.now (unwrap_or (prefix_of qname.now) [])) }
+    {
+        Ok(BookFault::Unbound {
+            file: self.file.share()?,
+            prefix: Txt::from_str(alloc, xt_value::prefix_of(qname))?,
+        })
+    }
+
+    /// Two attributes of one tag have one expanded name.
+    pub(crate) fn duplicate_attribute(&self) -> Result<BookFault, AllocError>
+        ensures value { IfOk result (λ fault. fault_in fault ≡ spec.duplicate_attribute self.now.file.now) }
+    {
+        Ok(BookFault::DuplicateAttribute {
+            file: self.file.share()?,
+        })
+    }
+
+    /// A base doesn't join.
+    pub(crate) fn bad_reference(&self) -> Result<BookFault, AllocError>
+        ensures value { IfOk result (λ fault. fault_in fault ≡ spec.bad_reference self.now.file.now) }
+    {
+        Ok(BookFault::BadReference {
+            file: self.file.share()?,
+        })
+    }
+}

@@ -1,0 +1,111 @@
+//! The nodes of items, level by level.
+ghost use Rattle.std.specs.Prelude.{◌≡◌, ◌+◌, ◌++◌, ◌∷◌, [], List, ℕ, Option, IfOk, IfErr, OnOk};
+ghost use Rattle.xt_spec.specs.Tree.{Items as TreeItems, nil, element, before};
+ghost use Rattle.xt_tree.specs.Meaning.{at_span, item_of, items_in};
+ghost use Rattle.xt_tree.specs.Places.{tag_mark, marks_in, marks_of};
+ghost use Rattle.bk_spec.specs.Node.{node_count};
+ghost use Rattle.bk_info.specs.Nodes.{nodes_in};
+ghost use Rattle.ent_doc.specs.Steps.{Gives, GivesFault, AreTagsInPlace, some_node};
+
+use crate::element::own_of;
+use crate::fault::OpenFault;
+use crate::leaf::{comment_node, pi_node, text_node};
+use crate::source::Source;
+use crate::tag::values_of;
+use crate::work::Work;
+use bk_info::{Context, Node};
+use sqlite_items::Items;
+use std::alloc::{AllocError, Global};
+use xt_tree::{Src, Tag};
+
+/// Puts a node behind others, where there is one.
+fn put(nodes: &mut Vec<Node>, node: Option<Node>) -> Result<(), AllocError>
+    ensures value { OnOk result (nodes.new.items ≡ nodes.old.items ++ some_node node) }
+{
+    if let Some(node) = node {
+        nodes.push(node)?;
+    }
+    Ok(())
+}
+
+/// The node of an element, with those of what it holds.
+#[cycle(tree)]
+fn element_node(
+    alloc: Global,
+    source: &Source<'_>,
+    work: &mut Work,
+    context: &Context,
+    tag: &Tag,
+    kids: &[Src],
+) -> Result<Node, OpenFault>
+    requires tag { AreTagsInPlace source.now.text.now (tag_mark tag.now ∷ []) }
+    requires kids { AreTagsInPlace source.now.text.now (marks_of kids.now) }
+    ensures value { IfOk result (λ node. (close : Option (List ℕ)) (rest : TreeItems) → Gives source.now.file.now context.now (element (at_span source.now.text.now tag.now.span) (items_in source.now.text.now kids.now) close rest) rest work.old.count work.new.count (node ∷ [])) }
+    ensures count { IfOk result (λ node. work.new.count ≡ work.old.count + node_count (nodes_in (node ∷ []))) }
+    ensures fault { IfErr result (λ fault. (close : Option (List ℕ)) (rest : TreeItems) → GivesFault source.now.file.now context.now (element (at_span source.now.text.now tag.now.span) (items_in source.now.text.now kids.now) close rest) work.old.count fault) }
+{
+    let qname = source.text_at(tag.name)?;
+    let values = values_of(alloc, source, tag.attrs.as_slice())?;
+    let own = own_of(alloc, source, &mut work.names, context, qname, values)?;
+    work.count_one(source)?;
+    let kids = nodes_of(alloc, source, work, &own.context, kids)?;
+    Ok(Node::Elem {
+        name: own.name,
+        attrs: own.attrs,
+        context: own.context,
+        kids,
+        origin: source.origin.share()?,
+    })
+}
+
+/// The node of an item; none where it gives none.
+#[cycle(tree)]
+fn node_of(
+    alloc: Global,
+    source: &Source<'_>,
+    work: &mut Work,
+    context: &Context,
+    item: &Src,
+) -> Result<Option<Node>, OpenFault>
+    requires tags { AreTagsInPlace source.now.text.now (marks_in item.now) }
+    ensures value { IfOk result (λ node. (rest : TreeItems) → Gives source.now.file.now context.now (before (item_of source.now.text.now item.now) rest) rest work.old.count work.new.count (some_node node)) }
+    ensures count { IfOk result (λ node. work.new.count ≡ work.old.count + node_count (nodes_in (some_node node))) }
+    ensures fault { IfErr result (λ fault. (rest : TreeItems) → GivesFault source.now.file.now context.now (before (item_of source.now.text.now item.now) rest) work.old.count fault) }
+{
+    match item {
+        Src::Elem { head, kids, .. } => Ok(Some(element_node(
+            alloc,
+            source,
+            work,
+            context,
+            head,
+            kids.as_slice(),
+        )?)),
+        Src::Text(span) => text_node(alloc, source, work, *span),
+        Src::Comment(span) => Ok(Some(comment_node(alloc, source, work, *span)?)),
+        Src::Pi(span) => Ok(Some(pi_node(alloc, source, work, *span)?)),
+        Src::Ref(_) | Src::Gap(_) => Ok(None),
+    }
+}
+
+/// The nodes of items.
+#[cycle(tree)]
+pub(crate) fn nodes_of(
+    alloc: Global,
+    source: &Source<'_>,
+    work: &mut Work,
+    context: &Context,
+    items: &[Src],
+) -> Result<Items<Node>, OpenFault>
+    requires tags { AreTagsInPlace source.now.text.now (marks_of items.now) }
+    ensures value { IfOk result (λ nodes. Gives source.now.file.now context.now (items_in source.now.text.now items.now) nil work.old.count work.new.count nodes) }
+    ensures count { IfOk result (λ nodes. work.new.count ≡ work.old.count + node_count (nodes_in nodes)) }
+    ensures fault { IfErr result (GivesFault source.now.file.now context.now (items_in source.now.text.now items.now) work.old.count) }
+{
+    let mut nodes = Vec::with_capacity(alloc, items.len())?;
+    for item in items {
+        put(&mut nodes, node_of(alloc, source, work, context, item)?)?;
+    }
+    nodes.shrink_to_fit();
+    Ok(Items::from_vec(nodes))
+}
