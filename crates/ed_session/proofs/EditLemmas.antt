@@ -1,9 +1,9 @@
 -- From the parts of an edit to its outcome.
-use Rattle.std.proofs.Common.{◌≡◌, ◌∙◌, inl, inr, ℕ, suc, ◌<◌, ◌≤◌, ◌+◌, ◌*◌, List, take, drop, ◌++◌, length, sym, ap, subst, arith, true, false, Some, Result, Vec, Global, encode_utf8_all}
+use Rattle.std.proofs.Common.{◌≡◌, ◌∙◌, ℕ, ◌<◌, ◌≤◌, List, length, sym, ap, subst, true, false, Some, Result, Vec, Global, encode_utf8_all}
 use Rattle.std.specs.Prelude.{IfOk}
 use Rattle.std.specs.List.{list_all}
 use Rattle.xt_spec.specs.Char.{is_char}
-use Rattle.xt_spec.specs.Tree.{Item, element_item, leaf_item, text_item, reference_item, comment_item, pi_item, gap, Items, nil, element, leaf, source_text}
+use Rattle.xt_spec.specs.Tree.{Item, element_item, leaf_item, text_item, reference_item, comment_item, pi_item, gap, Items, source_text}
 use Rattle.xt_spec.specs.Text.{IsTextItem, HasTextValue}
 use Rattle.xt_spec.specs.Reading.{document, IsReading}
 use Rattle.xt_read.proofs.Theorems.{one_tree}
@@ -12,7 +12,7 @@ use Rattle.ed_spec.specs.TextEdit.{text_edited}
 use Rattle.ed_spec.specs.Edit as spec
 use Rattle.ed_spec.specs.Edit.{Edit, text_edit, IsAt, IsInText, range_replaced, edited, Refuses, no_node, no_text, no_range, no_char, no_room, Accepts, accepted}
 use Rattle.ed_text.proofs.Theorems.{document_text_at}
-use Rattle.ed_laws.proofs.Theorems.{an_edited_document_opens, value_chars}
+use Rattle.ed_laws.proofs.Theorems.{an_edited_document_opens}
 use Rattle.ed_session.specs.declared.refusal.Refusal.TheVariants.{NoSuchPlace, WrongKind, BadRange, BadText, TooLarge}
 use Rattle.ed_session.specs.declared.refusal.EditFault.{EditFault}
 use Rattle.ed_session.specs.declared.refusal.EditFault.TheVariants.{Refused, NoMemory}

@@ -1,6 +1,5 @@
 -- The same bytes with the same items open, and are a file that a save may write.
 use Rattle.std.proofs.Common.{◌≡◌, ℕ, ◌≤◌, List, length, Option, Some, None, Ok, ◌∙◌, sym, subst, Vec}
-use Rattle.std.specs.Prelude.{IfSome}
 use Rattle.std.specs.Global.{Global}
 use Rattle.xt_spec.specs.Tree.{Items}
 use Rattle.xt_spec.specs.Content.{Content, HasContent}

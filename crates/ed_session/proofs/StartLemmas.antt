@@ -7,7 +7,7 @@ use Rattle.bk_spec.specs.Fault.{too_large}
 use Rattle.bk_desk.specs.declared.desk.Got.{Got}
 use Rattle.bk_desk.specs.declared.desk.Got.TheVariants.{Bytes, Longer}
 use Rattle.bk_desk.specs.declared.desk_name.DeskName.TheVariants.{Book}
-use Rattle.bk_desk.specs.Disk.{DiskState, FitsCap, got_of}
+use Rattle.bk_desk.specs.Disk.{DiskState, got_of}
 use Rattle.jr_burst.specs.SavedFiles.{recovered_files}
 use Rattle.jr_burst.specs.Recover.{IsRecovered}
 use Rattle.ed_session.specs.declared.opening.StartFault.{StartFault}

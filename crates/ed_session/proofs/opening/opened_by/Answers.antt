@@ -1,4 +1,4 @@
-use Rattle.std.proofs.Common.{◌∙◌, List, ℕ, sym, subst}
+use Rattle.std.proofs.Common.{List, ℕ, sym, subst}
 use Rattle.bk_spec.specs.Fault.{too_large}
 use Rattle.ed_session.specs.Start.{IsRootFault}
 use Rattle.ed_session.proofs.StartLemmas.{too_long, no_root}

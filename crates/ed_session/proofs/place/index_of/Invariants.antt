@@ -1,4 +1,4 @@
-use Rattle.std.proofs.Common.{◌≡◌, ◌+◌, List, ℕ, drop, option_map}
+use Rattle.std.proofs.Common.{◌≡◌, ◌+◌, drop, option_map}
 use Rattle.ed_spec.specs.Place as spec
 use Rattle.xt_tree.specs.Meaning.{items_in}
 use Rattle.ed_session.proofs.place.index_of.Given as goal
