@@ -1,5 +1,5 @@
 -- What a whole document gives.
-use Rattle.std.proofs.Common.{◌≡◌, ℕ, List, sym, subst, Ok}
+use Rattle.std.proofs.Common.{◌≡◌, ℕ, List, subst, Ok}
 use Rattle.xt_spec.specs.Content.{Content, HasContent}
 use Rattle.xt_spec.specs.Tree.{Items, nil}
 use Rattle.xt_tree.specs.declared.source.Src.{Src}

@@ -1,17 +1,17 @@
 -- What an element gives, whatever stands behind it.
-use Rattle.std.proofs.Common.{◌≡◌, ◌∙◌, ℕ, suc, ◌+◌, List, [], ◌∷◌, map, refl, sym, ap, subst, Option, Result, Ok, Err, arith}
-use Rattle.xt_spec.specs.Content.{Content, nothing_given, element_content, HaveValues, HasContent}
+use Rattle.std.proofs.Common.{◌≡◌, ◌∙◌, ℕ, suc, ◌+◌, List, [], ◌∷◌, map, sym, ap, subst, Option, Result, Ok}
+use Rattle.xt_spec.specs.Content.{Content, element_content, HaveValues, HasContent}
 use Rattle.xt_spec.specs.Namespace.{NamedValue}
 use Rattle.xt_spec.specs.Tree.{Items, nil, element}
 use Rattle.xt_lex.specs.declared.attribute.AttrSrc.{AttrSrc}
 use Rattle.xt_tree.specs.declared.source.Tag.{Tag as TagSrc}
 use Rattle.xt_tree.specs.Meaning.{at_span}
 use Rattle.xt_tree.specs.Places.{tag_mark}
-use Rattle.bk_spec.specs.Node.{Nodes, no_nodes, element_node, node_count}
+use Rattle.bk_spec.specs.Node.{Nodes, element_node, node_count}
 use Rattle.bk_spec.specs.Fault.{Fault}
 use Rattle.bk_spec.specs.DocumentNodes.{Context, Element, and_then, element_of, with_room, nodes_of}
 use Rattle.bk_info.specs.declared.node.Node.{Node}
-use Rattle.bk_info.specs.Nodes.{node_in, nodes_in, nodes_before}
+use Rattle.bk_info.specs.Nodes.{node_in, nodes_in}
 use Rattle.ent_doc.specs.declared.fault.OpenFault.{OpenFault}
 use Rattle.ent_doc.specs.Steps.{Fails, prepended, Gives, GivesFault, attribute_at, AreTagsInPlace}
 use Rattle.ent_doc.proofs.FaultLemmas.{fails_then, fails_as}

@@ -1,8 +1,7 @@
 -- Faults that go on.
-use Rattle.std.proofs.Common.{◌≡◌, ◌∙◌, ap, Result, Err, refl}
+use Rattle.std.proofs.Common.{◌≡◌, ◌∙◌, ap, Result}
 use Rattle.bk_spec.specs.Fault.{Fault}
 use Rattle.bk_spec.specs.DocumentNodes.{and_then}
-use Rattle.bk_info.specs.Nodes.{fault_in}
 use Rattle.ent_doc.specs.declared.fault.OpenFault.{OpenFault}
 use Rattle.ent_doc.specs.declared.fault.OpenFault.TheVariants.{Book, NoMemory}
 use Rattle.ent_doc.specs.Steps.{Fails}

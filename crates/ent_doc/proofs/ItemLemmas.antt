@@ -1,8 +1,7 @@
 -- What an item of the code gives, and items in a row.
-use Rattle.std.proofs.Common.{◌≡◌, ◌∙◌, ℕ, zero, suc, ◌<◌, ◌≤◌, ◌+◌, List, [], ◌∷◌, ◌++◌, map, drop, length, get_or, refl, sym, ap, subst, arith, append_assoc, length-append, Option, option_map, drop-cons, Result, Ok, Err}
+use Rattle.std.proofs.Common.{◌≡◌, ◌∙◌, ℕ, zero, suc, ◌<◌, ◌≤◌, ◌+◌, List, [], ◌∷◌, ◌++◌, drop, length, get_or, refl, sym, ap, subst, arith, length-append, Option, option_map, drop-cons, Result, Ok, Err}
 use Rattle.std.proofs.lemmas.Grind.{common_steps}
-use Rattle.std.proofs.lemmas.List.{append-nil}
-use Rattle.xt_spec.specs.Content.{Content, HasContent}
+use Rattle.xt_spec.specs.Content.{HasContent}
 use Rattle.xt_spec.specs.Tree.{Items, Item, element_item, leaf_item, text_item, comment_item, pi_item, nil, element, leaf, before}
 use Rattle.xt_lex.specs.declared.token.Span.{Span}
 use Rattle.xt_tree.specs.declared.source.Tag.{Tag as TagSrc}
@@ -12,13 +11,13 @@ use Rattle.xt_tree.specs.declared.source.Src.TheOpen.{Src-F}
 use Rattle.xt_tree.specs.declared.source.Src.TheFolds.{fold-roll-Src}
 use Rattle.xt_tree.specs.Meaning.{at_span, item_step, item_of, items_in}
 use Rattle.xt_tree.specs.Places.{Mark, tag_mark, span_mark, mark_step, marks_in, marks_of, tail_marks, AreInPlace}
-use Rattle.bk_spec.specs.Node.{Nodes, no_nodes, node_count}
+use Rattle.bk_spec.specs.Node.{Nodes, node_count}
 use Rattle.bk_spec.specs.Fault.{Fault}
-use Rattle.bk_spec.specs.DocumentNodes.{Context, and_then, nodes_of}
+use Rattle.bk_spec.specs.DocumentNodes.{Context, nodes_of}
 use Rattle.bk_info.specs.declared.node.Node.{Node}
 use Rattle.bk_info.specs.Nodes.{nodes_in, nodes_before}
 use Rattle.ent_doc.specs.declared.fault.OpenFault.{OpenFault}
-use Rattle.ent_doc.specs.Steps.{Fails, prepended, Gives, GivesFault, AreTagsInPlace}
+use Rattle.ent_doc.specs.Steps.{prepended, Gives, GivesFault, AreTagsInPlace}
 use Rattle.ent_doc.proofs.FaultLemmas.{fails_then, fails_as}
 use Rattle.ent_doc.proofs.NodeLemmas.{prepended_twice, count_twice}
 

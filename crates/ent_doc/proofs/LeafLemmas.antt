@@ -1,20 +1,20 @@
 -- What a leaf gives, whatever stands behind it.
 use Rattle.std.proofs.lemmas.List.{nil_from_length}
-use Rattle.std.proofs.Common.{length, ◌≡◌, ◌≢◌, ◌∙◌, ℕ, suc, List, [], ◌∷◌, refl, sym, ap, subst, Result, Ok, Err}
-use Rattle.xt_spec.specs.Content.{Content, text_content, comment_content, pi_content, IsCommentOf, IsPiOf, HasContent}
+use Rattle.std.proofs.Common.{length, ◌≡◌, ◌≢◌, ◌∙◌, ℕ, suc, List, [], ◌∷◌, refl, sym, ap, Result, Ok, Err}
+use Rattle.xt_spec.specs.Content.{Content, text_content, pi_content, IsPiOf}
 use Rattle.xt_spec.specs.LineEnds.{lines_read}
 use Rattle.xt_spec.specs.Text.{HasTextValue}
 use Rattle.xt_spec.specs.Tree.{Items, leaf, text_item, comment_item, pi_item}
-use Rattle.bk_spec.specs.Node.{Origin, owned, Nodes, text_node, comment_node, pi_node}
+use Rattle.bk_spec.specs.Node.{Origin, owned, Nodes, text_node, pi_node}
 use Rattle.bk_spec.specs.Fault.{Fault}
 use Rattle.bk_spec.specs.DocumentNodes.{Context, and_then, with_room, nodes_of}
 use Rattle.bk_info.specs.declared.node.Node.{Node}
 use Rattle.bk_info.specs.declared.node.Node.TheVariants as code
-use Rattle.bk_info.specs.Nodes.{node_in, nodes_before}
+use Rattle.bk_info.specs.Nodes.{node_in}
 use Rattle.ent_doc.specs.declared.fault.OpenFault.{OpenFault}
 use Rattle.ent_doc.specs.Steps.{Fails, prepended, Gives, GivesFault}
 use Rattle.ent_doc.proofs.FaultLemmas.{fails_as}
-use Rattle.ent_doc.proofs.NodeLemmas.{text_is, comment_is, pi_is}
+use Rattle.bk_info.proofs.Theorems.{text_is, pi_is}
 
 -- a text of no bytes
 pub is_void : (value : List ℕ) (n : ℕ) → n ≡ length value → n ≡ 0 → value ≡ []

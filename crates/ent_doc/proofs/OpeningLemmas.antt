@@ -1,13 +1,11 @@
 -- From what each step of an opening answers to the whole.
-use Rattle.std.proofs.Common.{◌≡◌, ◌∙◌, ◌↔◌, ℕ, ◌≤◌, List, length, Bool, true, false, IsTrue, refl, sym, ap, subst, Some, None, Ok, Err}
-use Rattle.std.proofs.lemmas.Bool.{cases_Bool}
+use Rattle.std.proofs.Common.{◌≡◌, ◌∙◌, ◌↔◌, ℕ, ◌≤◌, List, length, Bool, true, false, IsTrue, refl, sym, subst, Ok}
 use Rattle.xt_spec.specs.Tree.{Items}
 use Rattle.xt_spec.specs.Reading.{document, IsReading}
 use Rattle.xt_spec.specs.Content.{Content, HasContent}
 use Rattle.bk_spec.specs.Node.{Nodes, has_inclusion}
-use Rattle.bk_spec.specs.Fault.{Fault, not_yet}
 use Rattle.bk_spec.specs.DocumentNodes.{nodes_of}
-use Rattle.bk_spec.specs.Opening.{top_context, GivesNodes, IsOpen, IsUnopened, declares, faulty, includes}
+use Rattle.bk_spec.specs.Opening.{top_context, GivesNodes, IsOpen, declares, faulty, includes}
 use Rattle.bk_info.specs.declared.fault.BookFault.{BookFault}
 use Rattle.bk_info.specs.declared.fault.BookFault.TheVariants as fault
 use Rattle.bk_info.specs.Nodes.{fault_in}

@@ -1,5 +1,5 @@
 -- An element's own, from its parts.
-use Rattle.std.proofs.Common.{◌≡◌, ◌∙◌, ℕ, Bool, true, false, List, refl, sym, ap, subst, Option, Some, None, unwrap_or, Result, Ok, Err, codes}
+use Rattle.std.proofs.Common.{◌≡◌, ◌∙◌, ℕ, false, List, refl, sym, ap, subst, Option, Some, unwrap_or, Result, Ok, codes}
 use Rattle.xt_spec.specs.Namespace.{NamedValue, Binding, Expanded, scope_of}
 use Rattle.bk_spec.specs.Node as spec
 use Rattle.bk_spec.specs.Fault.{Fault, bad_namespace}

@@ -16,6 +16,8 @@ mod names;
 mod opening;
 mod source;
 mod tag;
+#[cfg(test)]
+mod tests;
 mod tree;
 mod work;
 

@@ -1,4 +1,4 @@
-use Rattle.std.proofs.Common.{◌≡◌, ◌∙◌, sym, ap, List, ℕ, codes}
+use Rattle.std.proofs.Common.{◌∙◌, ap, List, codes}
 use Rattle.std.proofs.lemmas.Result.{err_from_is_err_and}
 use Rattle.bk_info.specs.declared.attr.Attr.{Attr}
 use Rattle.ent_doc.specs.Steps.{attr_value}

@@ -1,4 +1,4 @@
-use Rattle.std.proofs.Common.{◌≡◌, ◌∙◌, sym, List, ℕ, string_bytes}
+use Rattle.std.proofs.Common.{◌∙◌, sym}
 use Rattle.std.proofs.lemmas.Result.{err_from_is_err_and}
 use Rattle.xt_tree.specs.Meaning.{at_span}
 use Rattle.ent_doc.proofs.LeafLemmas.{pi_gives, pi_fails}

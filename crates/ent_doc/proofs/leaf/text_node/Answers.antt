@@ -1,4 +1,4 @@
-use Rattle.std.proofs.Common.{◌≡◌, ◌∙◌, sym}
+use Rattle.std.proofs.Common.{◌∙◌, sym}
 use Rattle.std.proofs.lemmas.Result.{err_from_is_err_and}
 use Rattle.xt_tree.specs.Meaning.{at_span}
 use Rattle.ent_doc.proofs.LeafLemmas.{text_gives, void_gives, text_fails, is_void, is_not_void}

@@ -1,5 +1,4 @@
-use Rattle.std.proofs.Common.{◌≡◌, ◌∙◌, subst, sym, List, ℕ, ap}
-use Rattle.xt_spec.specs.Tree.{Items}
+use Rattle.std.proofs.Common.{subst, sym, List, ℕ}
 use Rattle.xt_spec.specs.Reading.{document, IsReading}
 use Rattle.xt_tree.specs.Meaning.{items_in}
 use Rattle.xt_tree.specs.declared.source.Src.{Src}

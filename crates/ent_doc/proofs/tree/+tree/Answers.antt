@@ -1,13 +1,13 @@
-use Rattle.std.proofs.Common.{◌≡◌, ◌∙◌, ap, sym, List, ℕ, ◌+◌, ◌∷◌, [], rules, map, arith}
+use Rattle.std.proofs.Common.{◌≡◌, ◌∙◌, ap, ◌∷◌, [], arith}
 use Rattle.std.proofs.lemmas.Result.{err_from_is_err_and, IfErr-weaker}
 use Rattle.xt_spec.specs.Tree.{Items}
-use Rattle.xt_tree.specs.Meaning.{at_span, items_in}
-use Rattle.bk_spec.specs.Node.{Origin, owned, Nodes, element_node, node_count}
+use Rattle.xt_tree.specs.Meaning.{items_in}
+use Rattle.bk_spec.specs.Node.{Origin, owned, element_node}
 use Rattle.bk_info.specs.declared.node.Node.TheVariants as code
 use Rattle.bk_info.specs.Nodes.{nodes_in, head_in}
 use Rattle.ent_doc.specs.Steps.{Gives, GivesFault, element_in}
 use Rattle.ent_doc.proofs.ElementLemmas.{element_gives, own_fails, room_fails, kids_fail}
-use Rattle.ent_doc.proofs.NodeLemmas.{element_is}
+use Rattle.bk_info.proofs.Theorems.{element_is}
 use Rattle.ent_doc.proofs.ItemLemmas.{kids_in_place, kids_fewer, item_fewer, of_element, of_text, of_comment, of_pi, next_in_place, items_step, items_fail, items_begin, items_end, count_step}
 use Rattle.ent_doc.proofs.tree.+tree.Goals as goal
 
