@@ -3,8 +3,8 @@
 
 ghost use Rattle.std.specs.Prelude.{◌≡◌};
 
-pub mod laws;
 mod fault;
+pub mod laws;
 mod real;
 pub mod run;
 mod telling;

@@ -48,8 +48,8 @@ fn run_session<D: Desk, L: Ledger>(
 ) -> u8
     requires current { IsTrue D.tells → IsClosed (D.standing desk.old) }
     ensures value { (result ≡ 0) ⊎ ((result ≡ 1) ⊎ ((result ≡ 6) ⊎ (result ≡ 7))) }
-    ensures output { IsTrue D.tells → (start : DiskState) → IsStarted session.entry.root start (D.standing desk.old) session.entry
-        → IsSessionRun session.entry.root (map command_of commands.now) (D.standing desk.old) (D.standing desk.new) (AtEachCrash D.time D.was desk.old desk.new) result }
+    ensures output { IsTrue D.tells → (start : DiskState) → IsStarted session.root start (D.standing desk.old) session
+        → IsSessionRun session.root (map command_of commands.now) (D.standing desk.old) (D.standing desk.new) (AtEachCrash D.time D.was desk.old desk.new) result }
     ensures cause_desk { HasCause (D.faults desk.old) (D.faults desk.new) (result ≡ 6) }
     ensures count { (steps.old ≤ steps.new) × (steps.new ≤ steps.old + length commands.now * 4194304) }
 {

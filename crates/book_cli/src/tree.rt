@@ -15,7 +15,7 @@ use std::mem;
 
 /// The tree of the root as it was edited.
 fn tree_of(alloc: Global, session: Session) -> Result<Vec<u8>, AllocError>
-    ensures value { IfOk result (λ text. (book : Book) → book session.entry.root ≡ Some session.entry.bytes → IsTree session.entry.root book text.items) }
+    ensures value { IfOk result (λ text. (book : Book) → book session.root ≡ Some session.bytes → IsTree session.root book text.items) }
 {
     let nodes = session.into_tree()?;
     let text = print(alloc, nodes.as_slice())?;
@@ -32,14 +32,9 @@ fn status_of(refused: bool) -> u8
 }
 
 /// Tells the tree of a root, and gives the status of a run whose commands were carried out.
-pub(crate) fn tell_tree<D: Desk>(
-    alloc: Global,
-    session: Session,
-    refused: bool,
-    desk: &mut D,
-) -> u8
+pub(crate) fn tell_tree<D: Desk>(alloc: Global, session: Session, refused: bool, desk: &mut D) -> u8
     ensures value { (result ≡ 0) ⊎ ((result ≡ 1) ⊎ ((result ≡ 6) ⊎ (result ≡ 7))) }
-    ensures output { IsTrue D.tells → (book : Book) (tree : List ℕ) → book session.entry.root ≡ Some session.entry.bytes → IsTree session.entry.root book tree
+    ensures output { IsTrue D.tells → (book : Book) (tree : List ℕ) → book session.root ≡ Some session.bytes → IsTree session.root book tree
         → IsToldWith (if refused then 1 else 0) tree (D.standing desk.old) (D.standing desk.new) (AtEachCrash D.time D.was desk.old desk.new) result }
     ensures cause_desk { HasCause (D.faults desk.old) (D.faults desk.new) (result ≡ 6) }
 {

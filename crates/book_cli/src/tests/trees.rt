@@ -89,31 +89,64 @@ const CLOSED: &[(&[u8], &str)] = &[
     (b"<1/>", "fault NotWellFormed book.xml\n"),
     (b"<a:b:c/>", "fault NotWellFormed book.xml\n"),
     (b"<a><!--c--->\n</a>", "fault NotWellFormed book.xml\n"),
-    (b"<a><?xml version='1.0'?></a>", "fault NotWellFormed book.xml\n"),
+    (
+        b"<a><?xml version='1.0'?></a>",
+        "fault NotWellFormed book.xml\n",
+    ),
     (b"<a/>&x;", "fault NotWellFormed book.xml\n"),
     (b"<a>\xFF</a>", "fault Encoding book.xml\n"),
-    (b"<?xml version=\"1.0\" encoding=\"ISO-8859-1\"?><a/>", "fault Encoding book.xml\n"),
+    (
+        b"<?xml version=\"1.0\" encoding=\"ISO-8859-1\"?><a/>",
+        "fault Encoding book.xml\n",
+    ),
     (b"<a>&x;</a>", "fault NotYet book.xml\n"),
     (b"<a b='&x;'/>", "fault NotYet book.xml\n"),
     (b"<!DOCTYPE a><a/>", "fault NotYet book.xml\n"),
-    (b"<!DOCTYPE a [<!ENTITY x 'y'>]><p:a>&x;</p:a>", "fault NotYet book.xml\n"),
+    (
+        b"<!DOCTYPE a [<!ENTITY x 'y'>]><p:a>&x;</p:a>",
+        "fault NotYet book.xml\n",
+    ),
     (b"<p:a><b>&x;</b></p:a>", "fault NotYet book.xml\n"),
     (b"<p:a/>", "fault Unbound book.xml p\n"),
     (b"<a p:n='1'/>", "fault Unbound book.xml p\n"),
     (b"<p:a q:n='1'/>", "fault Unbound book.xml p\n"),
     (b"<xmlns:a/>", "fault Unbound book.xml xmlns\n"),
-    (b"<a><b xmlns:p='u:1'/><p:c/></a>", "fault Unbound book.xml p\n"),
+    (
+        b"<a><b xmlns:p='u:1'/><p:c/></a>",
+        "fault Unbound book.xml p\n",
+    ),
     (b"<a xmlns:p=\"\"/>", "fault BadNamespace book.xml\n"),
     (b"<q:a xmlns:p=\"\"/>", "fault BadNamespace book.xml\n"),
     (b"<a xmlns:xml='u:1'/>", "fault BadNamespace book.xml\n"),
-    (b"<a xmlns='http://www.w3.org/XML/1998/namespace'/>", "fault BadNamespace book.xml\n"),
-    (b"<a xmlns:p='http://www.w3.org/2000/xmlns/'/>", "fault BadNamespace book.xml\n"),
+    (
+        b"<a xmlns='http://www.w3.org/XML/1998/namespace'/>",
+        "fault BadNamespace book.xml\n",
+    ),
+    (
+        b"<a xmlns:p='http://www.w3.org/2000/xmlns/'/>",
+        "fault BadNamespace book.xml\n",
+    ),
     (b"<a xmlns:xmlns='u:1'/>", "fault BadNamespace book.xml\n"),
-    (b"<a xmlns:p=\"u:1\" xmlns:q=\"u:1\" p:n=\"\" q:n=\"\"/>", "fault DuplicateAttribute book.xml\n"),
-    (b"<a xml:base=\"http://[\"></a>", "fault BadReference book.xml\n"),
-    (b"<a><b xml:base='http://['/><p:c/></a>", "fault BadReference book.xml\n"),
-    (b"<a xmlns:xi='http://www.w3.org/2001/XInclude'><xi:include href='b.xml'/></a>", "fault NotYet book.xml\n"),
-    (b"<a xmlns:xi='http://www.w3.org/2001/XInclude'><xi:include href='b.xml'/><p:c/></a>", "fault Unbound book.xml p\n"),
+    (
+        b"<a xmlns:p=\"u:1\" xmlns:q=\"u:1\" p:n=\"\" q:n=\"\"/>",
+        "fault DuplicateAttribute book.xml\n",
+    ),
+    (
+        b"<a xml:base=\"http://[\"></a>",
+        "fault BadReference book.xml\n",
+    ),
+    (
+        b"<a><b xml:base='http://['/><p:c/></a>",
+        "fault BadReference book.xml\n",
+    ),
+    (
+        b"<a xmlns:xi='http://www.w3.org/2001/XInclude'><xi:include href='b.xml'/></a>",
+        "fault NotYet book.xml\n",
+    ),
+    (
+        b"<a xmlns:xi='http://www.w3.org/2001/XInclude'><xi:include href='b.xml'/><p:c/></a>",
+        "fault Unbound book.xml p\n",
+    ),
 ];
 
 #[test]

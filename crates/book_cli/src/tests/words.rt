@@ -113,7 +113,12 @@ fn a_root_is_missing_or_reads_as_no_document(rt: HostRuntime) -> Result<(), Fail
     let alloc = rt.alloc();
     for (root, status, told, calls) in [
         (None, 3, ["fault Missing book.xml\n", ""], 4),
-        (Some(b"".as_slice()), 3, ["fault NotWellFormed book.xml\n", ""], 4),
+        (
+            Some(b"".as_slice()),
+            3,
+            ["fault NotWellFormed book.xml\n", ""],
+            4,
+        ),
         (Some(b"<a/>".as_slice()), 0, [HEAD, ""], 4),
     ] {
         let case = Case {
