@@ -20,17 +20,17 @@ returns-in-Ok-clause-output g c = λ h bytes reads.
     let is = c.in-Ok.ensures.value h in
     let named = is.over.named in
     let commands = map command_of c.args.commands.now in
-    opened_run g.D.Desk.standing g.D.Desk.time g.D.Desk.was c.args.root.now bytes commands c.args.desk.now c.start.new.desk c.run_session-status.new.desk c.run_session-status.result reads is.recovered (c.start.ensures.crash h)
-    (subst (λ (r : List ℕ). IsSessionRun r commands mid (g.D.Desk.standing c.run_session-status.new.desk) (AtEachCrash g.D.Desk.time g.D.Desk.was c.start.new.desk c.run_session-status.new.desk) c.run_session-status.result) named
-    (c.run_session-status.ensures.output h old (subst (λ (r : List ℕ). IsStarted r old mid c.in-Ok.session) (sym named) is)))
+    opened_run g.D.Desk.standing g.D.Desk.time g.D.Desk.was c.args.root.now bytes commands c.args.desk.now c.start.new.desk c.run_session.new.desk c.run_session.result reads is.recovered (c.start.ensures.crash h)
+    (subst (λ (r : List ℕ). IsSessionRun r commands mid (g.D.Desk.standing c.run_session.new.desk) (AtEachCrash g.D.Desk.time g.D.Desk.was c.start.new.desk c.run_session.new.desk) c.run_session.result) named
+    (c.run_session.ensures.output h old (subst (λ (r : List ℕ). IsStarted r old mid c.in-Ok.session) (sym named) is)))
 
 pub returns-in-Ok-clause-exact : goal.returns-in-Ok-clause-exact
 returns-in-Ok-clause-exact g c = λ h bytes reads.
     let old = g.D.Desk.standing c.args.desk.now in
     let mid = g.D.Desk.standing c.start.new.desk in
     let is = c.in-Ok.ensures.value h in
-    opened_steps c.args.root.now bytes old.files (map command_of c.args.commands.now) (book_files mid.files) c.run_session-status.result c.args.steps.now c.start.new.steps c.run_session-status.new.steps (length c.args.commands.now) reads is.recovered.book
-    ((c.in-Ok.ensures.exact h).exact tt) c.run_session-status.ensures.count.0 c.run_session-status.ensures.count.1 (sym (length-map c.args.commands.now command_of))
+    opened_steps c.args.root.now bytes old.files (map command_of c.args.commands.now) (book_files mid.files) c.run_session.result c.args.steps.now c.start.new.steps c.run_session.new.steps (length c.args.commands.now) reads is.recovered.book
+    ((c.in-Ok.ensures.exact h).exact tt) c.run_session.ensures.count.0 c.run_session.ensures.count.1 (sym (length-map c.args.commands.now command_of))
 
 pub returns-in-Err-Desk-clause-output : goal.returns-in-Err-Desk-clause-output
 returns-in-Err-Desk-clause-output g c = λ h bytes reads.

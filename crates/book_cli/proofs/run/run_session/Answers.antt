@@ -38,8 +38,8 @@ returns-in-Err-Fault-clause-output g c = λ h start is.
     (c.tell_replies.ensures.prefix h s r.last asked r.steps stands (asks_all commands) r.does)
     (c.tell_replies.ensures.crash h s r.last asked r.steps r.tree stands (asks_all commands) r.does)
 
-pub returns-in-Err-NoMemory-clause-output : goal.returns-in-Err-NoMemory-clause-output
-returns-in-Err-NoMemory-clause-output g c = λ h start is.
+pub returns-clause-output : goal.returns-clause-output
+returns-clause-output g c = λ h start is.
     let k = c.args.session in
     let commands = c.args.commands.now in
     let old = g.D.Desk.standing c.args.desk.now in
