@@ -9,7 +9,8 @@ use Rattle.ed_session.specs.Kept.{Kept, saved_of}
 use Rattle.ed_session.specs.Items.{gives_node_item, content, item_count, IsNarrow}
 use Rattle.ed_session.specs.Edits.{IsNoValue}
 use Rattle.ed_session.specs.Burst.{IsCount}
-use Rattle.ed_session.specs.Start.{size_of_got, file_steps}
+use Rattle.bk_spec.specs.Fault.{missing, too_large}
+use Rattle.ed_session.specs.Start.{IsRootFault, absent, longer, faulty, size_of_got, file_steps}
 
 -- an element gives a node, white space at the top gives none
 gives_node_item-right : gives_node_item (element_item (codes "<a/>") nil None) ≡ true
@@ -17,6 +18,13 @@ gives_node_item-right = refl
 
 gives_node_item-wrong : gives_node_item (leaf_item gap (codes " ")) ≡ false
 gives_node_item-wrong = refl
+
+-- a text gives a node exactly where its value isn't empty
+gives_node_item-text : gives_node_item (leaf_item text_item (codes "<![CDATA[x]]>")) ≡ true
+gives_node_item-text = refl
+
+gives_node_item-void : gives_node_item (leaf_item text_item (codes "<![CDATA[]]><![CDATA[]]>")) ≡ false
+gives_node_item-void = refl
 
 -- <a>x</a> and an LF: two items side by side, one within
 tree : Items
@@ -69,6 +77,15 @@ IsNoValue-wrong (inr less) = absurd (omega (arith, less))
 -- where the range is none, the text is not asked
 IsNoValue-order : IsNoValue (codes "xyz") 2 1 (0 ∷ []) (Refused BadText) → ⊥
 IsNoValue-order is = absurd (omega (arith, is.0))
+
+-- a root that isn't there is missing, and nothing else
+IsRootFault-right : IsRootFault (codes "a.xml") None (missing (codes "a.xml"))
+IsRootFault-right = absent refl refl
+
+IsRootFault-wrong : IsRootFault (codes "a.xml") None (too_large (codes "a.xml")) → ⊥
+IsRootFault-wrong (absent there same) = absurd cc
+IsRootFault-wrong (longer bytes there long same) = absurd cc
+IsRootFault-wrong (faulty bytes there fits is) = absurd cc
 
 -- a step a byte of the file that was read
 file_steps-right : file_steps (Some (codes "<a/>")) ≡ 4
