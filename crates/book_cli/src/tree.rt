@@ -17,10 +17,10 @@ use std::mem;
 fn tree_of(alloc: Global, session: Session) -> Result<Vec<u8>, AllocError>
     ensures value { IfOk result (λ text. (book : Book) → book session.root ≡ Some session.bytes → IsTree session.root book text.items) }
 {
-    let nodes = session.into_tree()?;
-    let text = print(alloc, nodes.as_slice())?;
-    // The process ends soon. To take a tree of many nodes apart first takes a good part of its time.
-    mem::forget(nodes);
+    let opened = session.into_opened()?;
+    let text = print(alloc, opened.nodes.as_slice())?;
+    // The process ends soon. To take its many items and nodes apart first takes a good part of its time.
+    mem::forget(opened);
     Ok(text)
 }
 

@@ -1,6 +1,5 @@
 //! What a session keeps.
 ghost use Rattle.std.specs.Prelude.{◌≡◌, ℕ, List, Some, None, IfOk, length};
-ghost use Rattle.xt_spec.specs.Tree.{Items as SyntaxItems};
 ghost use Rattle.bk_spec.specs.Opening.{IsOpen};
 ghost use Rattle.xt_tree.specs.Meaning.{items_in};
 ghost use Rattle.xt_tree.specs.Places.{marks_of, AreInPlace};
@@ -9,7 +8,7 @@ ghost use Rattle.ed_session.specs.Kept.{Opens};
 
 use bk_info::Node;
 use bk_name::Name;
-use ent_doc::document_nodes;
+use ent_doc::{Opened, document_nodes};
 use sqlite_items::Items;
 use std::alloc::{AllocError, Global};
 use std::marker::Model;
@@ -83,9 +82,9 @@ impl Session {
         self.items.as_slice()
     }
 
-    /// The nodes that the bytes give. They are made anew where an edit came since the start.
-    pub fn into_tree(self) -> Result<Items<Node>, AllocError>
-        ensures value { IfOk result (λ nodes. (items : SyntaxItems) × IsOpen self.root self.bytes items (nodes_in nodes)) }
+    /// The items and the nodes of the bytes as edited. The nodes are made anew where an edit came since the start.
+    pub fn into_opened(self) -> Result<Opened, AllocError>
+        ensures value { IfOk result (λ opened. IsOpen self.root self.bytes (items_in self.bytes opened.items) (nodes_in opened.nodes)) }
     {
         let alloc = *self.bytes.allocator();
         let Session {
@@ -96,8 +95,11 @@ impl Session {
             saved: _,
         } = self;
         match nodes {
-            Some(nodes) => Ok(nodes),
-            None => nodes_again(alloc, &root, bytes.as_slice(), items.as_slice()),
+            Some(nodes) => Ok(Opened { items, nodes }),
+            None => {
+                let nodes = nodes_again(alloc, &root, bytes.as_slice(), items.as_slice())?;
+                Ok(Opened { items, nodes })
+            }
         }
     }
 }

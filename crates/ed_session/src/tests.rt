@@ -178,8 +178,8 @@ fn a_whole_document_opens(rt: HostRuntime) -> Result<(), Fail> {
         let mut session = started(alloc, &mut desk)??;
         assert_eq!(rt; session.bytes(), root.as_bytes());
         edit(alloc, &mut session, script)?;
-        let nodes = session.into_tree()?;
-        assert_eq!(rt; counted(nodes.as_slice()), (at_top, held), "at {root}");
+        let opened = session.into_opened()?;
+        assert_eq!(rt; counted(opened.nodes.as_slice()), (at_top, held), "at {root}");
     }
     Ok(())
 }

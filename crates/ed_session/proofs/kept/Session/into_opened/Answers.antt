@@ -4,7 +4,7 @@ use Rattle.xt_tree.specs.Meaning.{items_in}
 use Rattle.bk_info.specs.Nodes.{nodes_in}
 use Rattle.ed_session.specs.Kept.{Kept}
 use Rattle.ed_session.proofs.KeptLemmas.{same_opens, same_open}
-use Rattle.ed_session.proofs.kept.Session.into_tree.Goals as goal
+use Rattle.ed_session.proofs.kept.Session.into_opened.Goals as goal
 
 pub nodes_again-requires-clause-opens : goal.nodes_again-requires-clause-opens
 nodes_again-requires-clause-opens c =
