@@ -18,12 +18,14 @@ use Rattle.xt_lex.specs.declared.token.Token.{Token}
 use Rattle.xt_lex.specs.declared.token.Span.{Span}
 use Rattle.xt_tree.specs.Meaning.{at_span, item_of, items_in}
 use Rattle.xt_read.specs.Steps.{IsTokenAt}
-use Rattle.xt_read.specs.Front.{role_of, form_of, body_for, NoDeclared, IsForeign, after_mark, BeginsBody, IsFront}
+use Rattle.xt_read.specs.Front.{markup_role_of, form_of, body_for, NoDeclared, IsForeign, after_mark, BeginsBody, IsFront}
 use Rattle.xt_read.specs.FrontSteps.{IsDeclarationAt, NoDeclarationAt, IsDeclaredAt, front_items, front_len}
 use Rattle.xt_read.specs.declared.front.FileRole.{FileRole}
+use Rattle.xt_read.specs.declared.front.FileRole.TheVariants as file
+use Rattle.xt_read.specs.declared.front.MarkupRole.{MarkupRole}
 use Rattle.xt_read.specs.declared.unread.Unread.{Unread}
 use Rattle.xt_read.specs.declared.unread.Unread.TheVariants.{NotUtf8, Encoding, NotWellFormed, TooDeep, NoMemory}
-use Rattle.xt_read.specs.Faults.{IsBodyFault, IsTextFault, IsFaultOf}
+use Rattle.xt_read.specs.Faults.{IsBodyFault, IsMarkupFault, IsTextFault, IsFaultOf}
 use Rattle.xt_read.specs.Run.{Body, IsRead}
 use Rattle.xt_read.proofs.ItemLemmas.{items_of-append}
 use Rattle.xt_read.proofs.Sound.{read_is_body}
@@ -121,7 +123,7 @@ after form body text len (Some span) is =
     (leaf gap (at_span text span) nil, length (at_span text span), after_declared form body (drop len text) (at_span text span) (drop span.to text) (length (at_span text span)) is.declares is.place.stands refl, span_len text len span is.place, refl)
 
 -- the body begins behind the mark and the declaration
-begins_body : (role : FileRole) (text : List ℕ) (len : ℕ) (declared : Option Span) → len ≡ (if starts_with nat_eq text mark then 3 else 0) → MatchOption declared (NoDeclared (form_of role) (drop len text)) (IsDeclaredAt (form_of role) text len) → BeginsBody role text (front_len len declared)
+begins_body : (role : MarkupRole) (text : List ℕ) (len : ℕ) (declared : Option Span) → len ≡ (if starts_with nat_eq text mark then 3 else 0) → MatchOption declared (NoDeclared (form_of role) (drop len text)) (IsDeclaredAt (form_of role) text len) → BeginsBody role text (front_len len declared)
 begins_body role text len None size none = record {
   len = 0;
   takes = inr (subst (NoDeclared (form_of role)) (mark_dropped text len size) none, refl);
@@ -135,7 +137,7 @@ begins_body role text len (Some span) size is =
       to_is = span_len text len span is.place ∙ ap (λ k. k + length (at_span text span)) size;
     }
 
-pub front_stands : (role : FileRole) (text : List ℕ) (len : ℕ) (declared : Option Span) → len ≡ (if starts_with nat_eq text mark then 3 else 0) → MatchOption declared (NoDeclared (form_of role) (drop len text)) (IsDeclaredAt (form_of role) text len) → IsFront role text (front_items text len declared) (front_len len declared)
+pub front_stands : (role : MarkupRole) (text : List ℕ) (len : ℕ) (declared : Option Span) → len ≡ (if starts_with nat_eq text mark then 3 else 0) → MatchOption declared (NoDeclared (form_of role) (drop len text)) (IsDeclaredAt (form_of role) text len) → IsFront role text (front_items text len declared) (front_len len declared)
 front_stands role text len declared size found =
     let (front, n, is, to, items) = after (form_of role) (body_for role) text len declared found in
     is_front role text (front_items text len declared) (front_len len declared) (by front n is to items (starts_with nat_eq text mark) refl size) (begins_body role text len declared size found)
@@ -155,18 +157,24 @@ front_stands role text len declared size found =
         subst (λ i. IsFrontBy (form_of role) (body_for role) text i (front_len len declared)) (sym same) (marked (form_of role) (body_for role) text front n (front_len len declared) starts size here)
 
 -- the first fault of a text, behind its front
-pub text_fault : (role : FileRole) (text : List ℕ) (front : Items) (to : ℕ) (fault : Unread) → IsFront role text front to → IsBodyFault (body_for role) text to fault → IsTextFault role text fault
+pub text_fault : (role : MarkupRole) (text : List ℕ) (front : Items) (to : ℕ) (fault : Unread) → IsFront role text front to → IsBodyFault (body_for role) text to fault → IsMarkupFault role text fault
 text_fault role text front to (NotWellFormed at) is fault = record { front = front; to = to; is = is; fault = fault }
 text_fault role text front to TooDeep is fault = record { front = front; to = to; is = is; fault = fault }
 text_fault role text front to NoMemory is fault = tt
 text_fault role text front to (NotUtf8 at) is fault = absurd fault.halts
 text_fault role text front to Encoding is fault = absurd fault.halts
 
+-- a text in a role has no fault of its bytes
+no_utf8_fault : (role : FileRole) (text : List ℕ) (at : ℕ) → IsTextFault role text (NotUtf8 at) → ⊥
+no_utf8_fault file.Document text at is = is
+no_utf8_fault file.Entity text at is = is
+no_utf8_fault file.Text text at is = is
+
 pub file_fault : (role : FileRole) (bytes text : List ℕ) (fault : Unread) → text ≡ bytes → IsUtf8 bytes → IsTextFault role text fault → IsFaultOf role bytes fault
 file_fault role bytes text (NotWellFormed at) same utf8 is = (utf8, subst (λ t. IsTextFault role t (NotWellFormed at)) same is)
 file_fault role bytes text TooDeep same utf8 is = (utf8, subst (λ t. IsTextFault role t TooDeep) same is)
 file_fault role bytes text NoMemory same utf8 is = tt
-file_fault role bytes text (NotUtf8 at) same utf8 is = absurd is
+file_fault role bytes text (NotUtf8 at) same utf8 is = absurd (no_utf8_fault role text at is)
 file_fault role bytes text Encoding same utf8 is = (utf8, subst (λ t. IsTextFault role t Encoding) same is)
 
 -- ---- the whole
@@ -178,12 +186,12 @@ marks_append : (gaps items : List Src) → marks_of (gaps ++ items) ≡ marks_of
 marks_append [] items = refl
 marks_append (x ∷ gaps) items = ap (λ m. marks_in x ++ m) (marks_append gaps items) ∙ sym (append_assoc (marks_in x) (marks_of gaps) (marks_of items))
 
-pub joined_items : (role : FileRole) (body : Body) (text : List ℕ) (gaps items all : List Src) (to : ℕ) → body ≡ body_for role → IsFront role text (items_in text gaps) to → IsRead body (drop to text) (items_in text items) → all ≡ gaps ++ items → IsOrdered (role_of role) (items_in text all) × (source_text (items_in text all) ≡ text)
+pub joined_items : (role : MarkupRole) (body : Body) (text : List ℕ) (gaps items all : List Src) (to : ℕ) → body ≡ body_for role → IsFront role text (items_in text gaps) to → IsRead body (drop to text) (items_in text items) → all ≡ gaps ++ items → IsOrdered (markup_role_of role) (items_in text all) × (source_text (items_in text all) ≡ text)
 joined_items role body text gaps items all to same is read joined =
     let main = read_is_body (body_for role) (drop to text) (items_in text items) (subst (λ b. IsRead b (drop to text) (items_in text items)) same read) in
     let whole = is.opens (items_in text items) main.0 main.1 in
     let e : items_in text all ≡ append (items_in text gaps) (items_in text items) = ap (items_in text) joined ∙ map_append text gaps items in
-    (subst (IsOrdered (role_of role)) (sym e) whole.0, ap source_text e ∙ whole.1)
+    (subst (IsOrdered (markup_role_of role)) (sym e) whole.0, ap source_text e ∙ whole.1)
 
 pub joined_places : (text : List ℕ) (gaps items all : List Src) (to : ℕ) → AreInPlace text 0 (marks_of gaps) to → AreInPlace text to (marks_of items) (length text) → all ≡ gaps ++ items → AreInPlace text 0 (marks_of all) (length text)
 joined_places text gaps items all to first second joined =

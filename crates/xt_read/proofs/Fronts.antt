@@ -1,18 +1,17 @@
 -- What stands in front of a body: a byte order mark and a declaration.
-use Rattle.std.proofs.Common.{◌≡◌, ◌∙◌, List, ℕ, ◌+◌, ◌∷◌, ◌++◌, length, take, drop, refl, sym, ap, subst, Bool, true, false, IsUtf8, inl, inr, nat_eq, arith, codes, append_assoc}
+use Rattle.std.proofs.Common.{◌≡◌, ◌∙◌, List, ℕ, ◌+◌, ◌++◌, length, take, drop, refl, sym, ap, subst, Bool, true, false, inl, inr, nat_eq, arith}
 use Rattle.std.proofs.lemmas.List.{take_at, drop_at, drop-drop, take-append-drop}
 use Rattle.std.proofs.lemmas.Slice.Eq.{bytes_eq-Decides}
-use Rattle.std.specs.List.{starts_with, list_all}
-use Rattle.xt_spec.specs.Char.{is_space}
+use Rattle.std.specs.List.{starts_with}
 use Rattle.xt_spec.specs.Declaration.{Declaration, IsDeclarationOf, IsDeclaration, is_utf8_or_absent, is_xml_declaration, is_text_declaration}
 use Rattle.xt_spec.specs.Token.{declaration, IsLongestFront}
 use Rattle.xt_spec.specs.Tree.{Items, nil, leaf, gap, append, source_text}
-use Rattle.xt_spec.specs.Reading.{before_doctype, behind_root, Leads, mark, DeclaresUtf8, IsMarked, IsDeclared, document, entity, IsOrdered, IsReading}
+use Rattle.xt_spec.specs.Reading.{mark, DeclaresUtf8, IsMarked, IsDeclared, document, entity, IsOrdered, IsReading}
 use Rattle.xt_lex.proofs.Theorems.{token_longest, declaration_unique}
 use Rattle.xt_read.specs.Run.{Body, document_body, content_body, IsBody, begin, piece_tok, declaration_piece, IsToken}
-use Rattle.xt_read.specs.Front.{NoDeclared, IsForeign, after_mark, role_of, form_of, body_for, mark_len, TakesDeclared, BeginsBody, IsFront}
-use Rattle.xt_read.specs.declared.front.FileRole.{FileRole}
-use Rattle.xt_read.specs.declared.front.FileRole.TheVariants as role
+use Rattle.xt_read.specs.Front.{NoDeclared, IsForeign, after_mark, markup_role_of, form_of, body_for, mark_len, TakesDeclared, BeginsBody, IsFront}
+use Rattle.xt_read.specs.declared.front.MarkupRole.{MarkupRole}
+use Rattle.xt_read.specs.declared.front.MarkupRole.TheVariants as role
 use Rattle.xt_read.proofs.Runs.{one_list, no_step}
 use Rattle.xt_read.proofs.Complete.{body_is_read}
 
@@ -132,7 +131,7 @@ marked form body text front len to some size after = record {
     only items (inr (starts, main)) joined =
         let h : false ≡ true = sym starts ∙ ap (λ t. starts_with nat_eq t mark) joined ∙ some in absurd (cc)
 
-pub is_front : (role : FileRole) (text : List ℕ) (front : Items) (to : ℕ) → IsFrontBy (form_of role) (body_for role) text front to → BeginsBody role text to → IsFront role text front to
+pub is_front : (role : MarkupRole) (text : List ℕ) (front : Items) (to : ℕ) → IsFrontBy (form_of role) (body_for role) text front to → BeginsBody role text to → IsFront role text front to
 is_front role.Document text front to is begins = record { opens = is.opens; only = is.only; known = is.known; begins = begins }
 is_front role.Entity text front to is begins = record { opens = is.opens; only = is.only; known = is.known; begins = begins }
 
@@ -150,7 +149,7 @@ no_foreign_marked form body text items (inr (none, main)) joined foreign =
     let plain : after_mark (source_text items) ≡ source_text items = rw none refl in
     no_foreign_declared form body items main (subst (IsForeign form) plain (subst (λ (t : List ℕ). IsForeign form (after_mark t)) (sym joined) foreign))
 
-pub no_foreign : (role : FileRole) (text : List ℕ) (items : Items) → IsOrdered (role_of role) items → source_text items ≡ text → IsForeign (form_of role) (after_mark text) → ⊥
+pub no_foreign : (role : MarkupRole) (text : List ℕ) (items : Items) → IsOrdered (markup_role_of role) items → source_text items ≡ text → IsForeign (form_of role) (after_mark text) → ⊥
 no_foreign role.Document text items ordered joined foreign = no_foreign_marked is_xml_declaration document_body text items ordered joined foreign
 no_foreign role.Entity text items ordered joined foreign = no_foreign_marked is_text_declaration content_body text items ordered joined foreign
 
@@ -162,7 +161,7 @@ one_len form text m n (inl (d, is)) (inr (none, zero)) = absurd (none d)
 one_len form text m n (inr (none, zero)) (inl (e, also)) = absurd (none e)
 one_len form text m n (inr (none, zero)) (inr (never, also)) = zero ∙ sym also
 
-pub one_begin : (role : FileRole) (text : List ℕ) (m n : ℕ) → BeginsBody role text m → BeginsBody role text n → m ≡ n
+pub one_begin : (role : MarkupRole) (text : List ℕ) (m n : ℕ) → BeginsBody role text m → BeginsBody role text n → m ≡ n
 one_begin role text m n a b = a.to_is ∙ ap (λ k. mark_len text + k) (one_len (form_of role) (after_mark text) a.len b.len a.takes b.takes) ∙ sym b.to_is
 
 -- ---- one reading

@@ -1,14 +1,13 @@
 -- Items are tested for content, one by one.
-use Rattle.std.proofs.Common.{◌≡◌, ◌∙◌, ℕ, ◌+◌, ◌<◌, ◌≤◌, List, [], ◌∷◌, ◌++◌, length, drop, get_or, refl, sym, ap, subst, Bool, true, false, not, arith, IsTrue, ◌↔◌, Option, Some, None, option_map, inl, inr, suc, zero, codes}
+use Rattle.std.proofs.Common.{◌≡◌, ◌∙◌, ℕ, ◌+◌, ◌<◌, ◌≤◌, List, [], ◌∷◌, ◌++◌, length, drop, get_or, refl, sym, ap, subst, Bool, true, false, arith, IsTrue, ◌↔◌, Option, Some, None, option_map, inl, inr, suc, zero}
 use Rattle.std.specs.List.{AllByRecursion}
 use Rattle.std.proofs.lemmas.List.{drop_more, drop_all, length-append}
-use Rattle.xt_spec.specs.Tag.{Attribute, Tag, IsTag, tag_text}
-use Rattle.xt_spec.specs.Markup.{begins}
+use Rattle.xt_spec.specs.Tag.{Attribute, Tag, tag_text}
 use Rattle.xt_spec.specs.Tree.{Items, nil, element, leaf, before, LeafKind, Item, element_item, leaf_item, text_item, reference_item, comment_item, pi_item, gap}
 use Rattle.xt_spec.specs.Reading.{IsElement, IsContent, Stage, before_doctype, before_root, behind_root, Leads, tag_ending, IsMarked, IsDeclared, document, IsReading}
 use Rattle.xt_spec.specs.Declaration.{is_xml_declaration}
 use Rattle.xt_spec.specs.Namespace.{NamedValue}
-use Rattle.xt_spec.specs.Content.{Content, nothing_given, element_content, text_content, comment_content, pi_content, typed, HaveValues, HasContent}
+use Rattle.xt_spec.specs.Content.{nothing_given, element_content, text_content, typed, HaveValues}
 use Rattle.xt_lex.specs.Place.{EndsTag}
 use Rattle.xt_lex.specs.declared.token.Span.{Span}
 use Rattle.xt_lex.proofs.Theorems.{tag_unique}

@@ -7,6 +7,7 @@ mod Complete
 mod Sound
 mod Fronts
 mod FrontPlaces
+mod PlainTexts
 mod NoFaults
 mod Examples
 mod TagParts

@@ -3,29 +3,52 @@ use Rattle.std.proofs.Common.{◌≡◌, ◌∙◌, ◌≤◌, List, ℕ, length
 use Rattle.std.proofs.lemmas.List.{length-drop}
 use Rattle.std.proofs.lemmas.Str.{utf8_valid_len-IsValidUpTo}
 use Rattle.xt_spec.specs.Tree.{Items, source_text}
-use Rattle.xt_spec.specs.Reading.{IsReading, IsOrdered}
-use Rattle.xt_read.specs.Front.{body_for, role_of}
+use Rattle.xt_spec.specs.Reading.{plain_text, IsReading, IsOrdered}
+use Rattle.xt_read.specs.Front.{body_for, role_of, markup_role_of}
 use Rattle.xt_read.specs.Run.{Body, Tok, tok_text, IsToken, State, begin, is_too_deep, step}
-use Rattle.xt_read.specs.Faults.{Passes, here, past, IsTooDeep, IsHalt, IsHaltAt, IsBodyFault, IsBehindFront, IsFaultOf}
+use Rattle.xt_read.specs.Faults.{Passes, here, past, IsTooDeep, IsHalt, IsHaltAt, IsBodyFault, IsBehindFront, IsMarkupFault, IsPlainFault, IsTextFault, IsFaultOf}
 use Rattle.xt_read.specs.declared.front.FileRole.{FileRole}
+use Rattle.xt_read.specs.declared.front.FileRole.TheVariants as file
+use Rattle.xt_read.specs.declared.front.MarkupRole.{MarkupRole}
+use Rattle.xt_read.specs.declared.front.MarkupRole.TheVariants as markup
 use Rattle.xt_read.specs.declared.unread.Unread.{Unread}
 use Rattle.xt_read.specs.declared.unread.Unread.TheVariants.{NotUtf8, Encoding, NotWellFormed, TooDeep, NoMemory}
 use Rattle.xt_read.proofs.Complete.{body_is_read}
 use Rattle.xt_read.proofs.Fronts.{no_foreign, one_begin}
+use Rattle.xt_read.proofs.PlainTexts.{no_first_no_char, one_first_no_char}
 use Rattle.xt_read.proofs.Runs.{no_items, some_same, no_token_of_nil, too_deep_none}
 use Rattle.xt_read.proofs.Tokens.{token_unique}
 
 -- a text with items has no fault behind its front
-none_behind : (r : FileRole) (text : List ℕ) (items : Items) (fault : Unread) → IsOrdered (role_of r) items → source_text items ≡ text → IsBehindFront r text fault → (fault ≡ NoMemory → ⊥) → ⊥
+none_behind : (r : MarkupRole) (text : List ℕ) (items : Items) (fault : Unread) → IsOrdered (markup_role_of r) items → source_text items ≡ text → IsBehindFront r text fault → (fault ≡ NoMemory → ⊥) → ⊥
 none_behind r text items fault ordered joined is some =
     let (list, same, main, rest) = is.is.only items ordered joined in
     no_items (body_for r) text is.to fault list is.fault some (body_is_read (body_for r) (drop is.to text) list main rest)
 
+no_markup_fault : (r : MarkupRole) (text : List ℕ) (items : Items) (fault : Unread) → IsOrdered (markup_role_of r) items → source_text items ≡ text → IsMarkupFault r text fault → fault ≡ NoMemory
+no_markup_fault r text items (NotUtf8 at) ordered joined fault = absurd fault
+no_markup_fault r text items Encoding ordered joined fault = absurd (no_foreign r text items ordered joined fault)
+no_markup_fault r text items (NotWellFormed at) ordered joined fault = absurd (none_behind r text items (NotWellFormed at) ordered joined fault (λ e. cc))
+no_markup_fault r text items TooDeep ordered joined fault = absurd (none_behind r text items TooDeep ordered joined fault (λ e. cc))
+no_markup_fault r text items NoMemory ordered joined fault = refl
+
+no_plain_fault : (text : List ℕ) (items : Items) (fault : Unread) → IsOrdered plain_text items → source_text items ≡ text → IsPlainFault text fault → fault ≡ NoMemory
+no_plain_fault text items (NotUtf8 at) ordered joined fault = absurd fault
+no_plain_fault text items Encoding ordered joined fault = absurd fault
+no_plain_fault text items (NotWellFormed at) ordered joined fault = absurd (no_first_no_char text items at ordered joined fault)
+no_plain_fault text items TooDeep ordered joined fault = absurd fault
+no_plain_fault text items NoMemory ordered joined fault = refl
+
+no_text_fault : (r : FileRole) (text : List ℕ) (items : Items) (fault : Unread) → IsOrdered (role_of r) items → source_text items ≡ text → IsTextFault r text fault → fault ≡ NoMemory
+no_text_fault file.Document text items fault ordered joined is = no_markup_fault markup.Document text items fault ordered joined is
+no_text_fault file.Entity text items fault ordered joined is = no_markup_fault markup.Entity text items fault ordered joined is
+no_text_fault file.Text text items fault ordered joined is = no_plain_fault text items fault ordered joined is
+
 pub no_fault : (r : FileRole) (bytes : List ℕ) (items : Items) (fault : Unread) → IsReading (role_of r) bytes items → IsFaultOf r bytes fault → fault ≡ NoMemory
 no_fault r bytes items (NotUtf8 at) is fault = absurd (fault.0 is.utf8)
-no_fault r bytes items Encoding is fault = absurd (no_foreign r bytes items is.ordered is.joined fault.1)
-no_fault r bytes items (NotWellFormed at) is fault = absurd (none_behind r bytes items (NotWellFormed at) is.ordered is.joined fault.1 (λ e. cc))
-no_fault r bytes items TooDeep is fault = absurd (none_behind r bytes items TooDeep is.ordered is.joined fault.1 (λ e. cc))
+no_fault r bytes items Encoding is fault = no_text_fault r bytes items Encoding is.ordered is.joined fault.1
+no_fault r bytes items (NotWellFormed at) is fault = no_text_fault r bytes items (NotWellFormed at) is.ordered is.joined fault.1
+no_fault r bytes items TooDeep is fault = no_text_fault r bytes items TooDeep is.ordered is.joined fault.1
 no_fault r bytes items NoMemory is fault = refl
 
 -- ---- one fault
@@ -97,10 +120,45 @@ one_body_fault body text from a b x y some more =
     let at : x.at ≡ y.at = one_place text x.at y.at x.within y.within stop.1 in
     one_at text y.at y.state a b (subst (λ (n : ℕ). IsHaltAt text n y.state a) at (subst (λ (s : State). IsHaltAt text x.at s a) stop.0 x.halts)) y.halts some more
 
-one_behind : (r : FileRole) (text : List ℕ) (a b : Unread) → IsBehindFront r text a → IsBehindFront r text b → (a ≡ NoMemory → ⊥) → (b ≡ NoMemory → ⊥) → a ≡ b
+one_behind : (r : MarkupRole) (text : List ℕ) (a b : Unread) → IsBehindFront r text a → IsBehindFront r text b → (a ≡ NoMemory → ⊥) → (b ≡ NoMemory → ⊥) → a ≡ b
 one_behind r text a b x y some more =
     let to : x.to ≡ y.to = one_begin r text x.to y.to x.is.begins y.is.begins in
     one_body_fault (body_for r) text y.to a b (subst (λ (n : ℕ). IsBodyFault (body_for r) text n a) to x.fault) y.fault some more
+
+one_markup_fault : (r : MarkupRole) (text : List ℕ) (a b : Unread) → IsMarkupFault r text a → IsMarkupFault r text b → (a ≡ NoMemory → ⊥) → (b ≡ NoMemory → ⊥) → a ≡ b
+one_markup_fault r text (NotUtf8 m) b x y some more = absurd x
+one_markup_fault r text NoMemory b x y some more = absurd (some refl)
+one_markup_fault r text Encoding (NotUtf8 n) x y some more = absurd y
+one_markup_fault r text Encoding Encoding x y some more = refl
+one_markup_fault r text Encoding (NotWellFormed n) x y some more = absurd (y.is.known x)
+one_markup_fault r text Encoding TooDeep x y some more = absurd (y.is.known x)
+one_markup_fault r text Encoding NoMemory x y some more = absurd (more refl)
+one_markup_fault r text (NotWellFormed m) (NotUtf8 n) x y some more = absurd y
+one_markup_fault r text (NotWellFormed m) Encoding x y some more = absurd (x.is.known y)
+one_markup_fault r text (NotWellFormed m) (NotWellFormed n) x y some more = one_behind r text (NotWellFormed m) (NotWellFormed n) x y some more
+one_markup_fault r text (NotWellFormed m) TooDeep x y some more = one_behind r text (NotWellFormed m) TooDeep x y some more
+one_markup_fault r text (NotWellFormed m) NoMemory x y some more = absurd (more refl)
+one_markup_fault r text TooDeep (NotUtf8 n) x y some more = absurd y
+one_markup_fault r text TooDeep Encoding x y some more = absurd (x.is.known y)
+one_markup_fault r text TooDeep (NotWellFormed n) x y some more = one_behind r text TooDeep (NotWellFormed n) x y some more
+one_markup_fault r text TooDeep TooDeep x y some more = refl
+one_markup_fault r text TooDeep NoMemory x y some more = absurd (more refl)
+
+one_plain_fault : (text : List ℕ) (a b : Unread) → IsPlainFault text a → IsPlainFault text b → (a ≡ NoMemory → ⊥) → (b ≡ NoMemory → ⊥) → a ≡ b
+one_plain_fault text (NotUtf8 m) b x y some more = absurd x
+one_plain_fault text Encoding b x y some more = absurd x
+one_plain_fault text TooDeep b x y some more = absurd x
+one_plain_fault text NoMemory b x y some more = absurd (some refl)
+one_plain_fault text (NotWellFormed m) (NotUtf8 n) x y some more = absurd y
+one_plain_fault text (NotWellFormed m) Encoding x y some more = absurd y
+one_plain_fault text (NotWellFormed m) (NotWellFormed n) x y some more = ap NotWellFormed (one_first_no_char text m n x y)
+one_plain_fault text (NotWellFormed m) TooDeep x y some more = absurd y
+one_plain_fault text (NotWellFormed m) NoMemory x y some more = absurd (more refl)
+
+one_text_fault : (r : FileRole) (text : List ℕ) (a b : Unread) → IsTextFault r text a → IsTextFault r text b → (a ≡ NoMemory → ⊥) → (b ≡ NoMemory → ⊥) → a ≡ b
+one_text_fault file.Document text a b x y some more = one_markup_fault markup.Document text a b x y some more
+one_text_fault file.Entity text a b x y some more = one_markup_fault markup.Entity text a b x y some more
+one_text_fault file.Text text a b x y some more = one_plain_fault text a b x y some more
 
 pub one_fault : (r : FileRole) (bytes : List ℕ) (a b : Unread) → IsFaultOf r bytes a → IsFaultOf r bytes b → (a ≡ NoMemory → ⊥) → (b ≡ NoMemory → ⊥) → a ≡ b
 one_fault r bytes (NotUtf8 m) (NotUtf8 n) x y some more = ap NotUtf8 (sym (utf8_valid_len-IsValidUpTo bytes m x.1) ∙ utf8_valid_len-IsValidUpTo bytes n y.1)
@@ -109,18 +167,18 @@ one_fault r bytes (NotUtf8 m) (NotWellFormed n) x y some more = absurd (x.0 y.0)
 one_fault r bytes (NotUtf8 m) TooDeep x y some more = absurd (x.0 y.0)
 one_fault r bytes (NotUtf8 m) NoMemory x y some more = absurd (more refl)
 one_fault r bytes Encoding (NotUtf8 n) x y some more = absurd (y.0 x.0)
-one_fault r bytes Encoding Encoding x y some more = refl
-one_fault r bytes Encoding (NotWellFormed n) x y some more = absurd (y.1.is.known x.1)
-one_fault r bytes Encoding TooDeep x y some more = absurd (y.1.is.known x.1)
+one_fault r bytes Encoding Encoding x y some more = one_text_fault r bytes Encoding Encoding x.1 y.1 some more
+one_fault r bytes Encoding (NotWellFormed n) x y some more = one_text_fault r bytes Encoding (NotWellFormed n) x.1 y.1 some more
+one_fault r bytes Encoding TooDeep x y some more = one_text_fault r bytes Encoding TooDeep x.1 y.1 some more
 one_fault r bytes Encoding NoMemory x y some more = absurd (more refl)
 one_fault r bytes (NotWellFormed m) (NotUtf8 n) x y some more = absurd (y.0 x.0)
-one_fault r bytes (NotWellFormed m) Encoding x y some more = absurd (x.1.is.known y.1)
-one_fault r bytes (NotWellFormed m) (NotWellFormed n) x y some more = one_behind r bytes (NotWellFormed m) (NotWellFormed n) x.1 y.1 some more
-one_fault r bytes (NotWellFormed m) TooDeep x y some more = one_behind r bytes (NotWellFormed m) TooDeep x.1 y.1 some more
+one_fault r bytes (NotWellFormed m) Encoding x y some more = one_text_fault r bytes (NotWellFormed m) Encoding x.1 y.1 some more
+one_fault r bytes (NotWellFormed m) (NotWellFormed n) x y some more = one_text_fault r bytes (NotWellFormed m) (NotWellFormed n) x.1 y.1 some more
+one_fault r bytes (NotWellFormed m) TooDeep x y some more = one_text_fault r bytes (NotWellFormed m) TooDeep x.1 y.1 some more
 one_fault r bytes (NotWellFormed m) NoMemory x y some more = absurd (more refl)
 one_fault r bytes TooDeep (NotUtf8 n) x y some more = absurd (y.0 x.0)
-one_fault r bytes TooDeep Encoding x y some more = absurd (x.1.is.known y.1)
-one_fault r bytes TooDeep (NotWellFormed n) x y some more = one_behind r bytes TooDeep (NotWellFormed n) x.1 y.1 some more
-one_fault r bytes TooDeep TooDeep x y some more = refl
+one_fault r bytes TooDeep Encoding x y some more = one_text_fault r bytes TooDeep Encoding x.1 y.1 some more
+one_fault r bytes TooDeep (NotWellFormed n) x y some more = one_text_fault r bytes TooDeep (NotWellFormed n) x.1 y.1 some more
+one_fault r bytes TooDeep TooDeep x y some more = one_text_fault r bytes TooDeep TooDeep x.1 y.1 some more
 one_fault r bytes TooDeep NoMemory x y some more = absurd (more refl)
 one_fault r bytes NoMemory b x y some more = absurd (some refl)

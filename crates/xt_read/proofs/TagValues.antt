@@ -1,5 +1,5 @@
 -- Whether the attributes of a tag have values, one by one.
-use Rattle.std.proofs.Common.{◌≡◌, ◌≢◌, ◌∙◌, ℕ, ◌+◌, ◌-◌, ◌<◌, ◌≤◌, List, [], ◌∷◌, ◌++◌, length, take, drop, get_or, refl, sym, ap, subst, Bool, true, false, ◌&&◌, arith, append_assoc, IsTrue, ◌↔◌, IsUtf8, inl, inr}
+use Rattle.std.proofs.Common.{◌≡◌, ◌≢◌, ◌∙◌, ℕ, ◌+◌, ◌-◌, ◌<◌, ◌≤◌, List, [], ◌∷◌, ◌++◌, length, take, drop, get_or, refl, sym, ap, subst, Bool, true, false, arith, append_assoc, IsTrue, ◌↔◌, IsUtf8, inl, inr}
 use Rattle.std.proofs.lemmas.List.{length-append, length-take, length-drop, drop_more, drop_all, drop-drop, take-append-drop, take_at}
 use Rattle.std.proofs.lemmas.Str.{IsCharBoundary-before_ascii}
 use Rattle.xt_read.proofs.TokenSteps.{cut_behind, first_of}

@@ -1,20 +1,29 @@
 -- Why a text is not read on, and the first fault of a file; the order of faults is of this project, what is well-formed is
 -- said by the readings.
 --
---   fault_at    a halt at a place, as a fault
---   Passes      a front of the text is read, token by token
---   IsHalt      the text is not read on in this state: no token stands, or one that may not, or it ends too early
---   IsTooDeep   .. a tag would begin an element at level 129
---   IsHaltAt    the fault of one place
---   IsBodyFault the first fault of a body
---   IsFaultOf   the first fault of a file
-use Rattle.std.specs.Prelude.{◌≡◌, ◌≢◌, ◌≤◌, ◌⊎◌, ℕ, true, false, List, [], drop, length, Some, None, IsUtf8}
-use Rattle.std.specs.Str.{IsValidUpTo}
+--   fault_at       a halt at a place, as a fault
+--   Passes         a front of the text is read, token by token
+--   IsHalt         the text is not read on in this state: no token stands, or one that may not, or it ends too early
+--   IsTooDeep      .. a tag would begin an element at level 129
+--   IsHaltAt       the fault of one place
+--   IsBodyFault    the first fault of a body
+--   IsMarkupFault  the first fault of a text of markup: of what stands in front, or of its body
+--   IsFirstNoChar  so many bytes stand before the first character that no document may hold
+--   IsPlainFault   the first fault of a text that is read as one text
+--   IsTextFault    the first fault of a text in a role
+--   IsFaultOf      the first fault of a file
+use Rattle.std.specs.Prelude.{◌≡◌, ◌≢◌, ◌≤◌, ◌⊎◌, ℕ, true, false, List, [], ◌∷◌, ◌++◌, drop, length, Some, None, IsUtf8, encode_utf8_all}
+use Rattle.std.specs.List.{list_all}
+use Rattle.std.specs.Str.{chars, IsValidUpTo}
+use Rattle.xt_spec.specs.Char.{is_char}
 use Rattle.xt_spec.specs.Token.{NoFront}
 use Rattle.xt_read.specs.Run.{Body, Tok, tok_text, IsToken, State, begin, is_too_deep, step, IsWhole}
 use Rattle.xt_spec.specs.Tree.{Items}
 use Rattle.xt_read.specs.Front.{form_of, body_for, after_mark, IsForeign, IsFront}
 use Rattle.xt_read.specs.declared.front.FileRole.{FileRole}
+use Rattle.xt_read.specs.declared.front.FileRole.TheVariants as file
+use Rattle.xt_read.specs.declared.front.MarkupRole.{MarkupRole}
+use Rattle.xt_read.specs.declared.front.MarkupRole.TheVariants as markup
 use Rattle.xt_read.specs.declared.unread.Unread.{Unread}
 use Rattle.xt_read.specs.declared.unread.Unread.TheVariants as unread
 use Rattle.xt_read.specs.declared.unread.Halt.{Halt}
@@ -66,19 +75,44 @@ pub record IsBodyFault (body : Body) (text : List ℕ) (from : ℕ) (fault : Unr
   pub halts : IsHaltAt text at state fault
 
 -- .. behind what stands in front
-pub record IsBehindFront (role : FileRole) (text : List ℕ) (unread : Unread) : Type 0 where
+pub record IsBehindFront (role : MarkupRole) (text : List ℕ) (unread : Unread) : Type 0 where
   pub front : Items
   pub to : ℕ
   pub is : IsFront role text front to
   pub fault : IsBodyFault (body_for role) text to unread
 
--- the first fault of a text in this role: the encoding that it declares, or where its body is read no further
+-- the first fault of a text of markup in this role: the encoding that it declares, or where its body is read no further
+abbrev pub IsMarkupFault : MarkupRole → List ℕ → Unread → Type 0
+IsMarkupFault role text unread.NoMemory = Unit {0}
+IsMarkupFault role text unread.Encoding = IsForeign (form_of role) (after_mark text)
+IsMarkupFault role text (unread.NotUtf8 at) = ⊥
+IsMarkupFault role text (unread.NotWellFormed at) = IsBehindFront role text (unread.NotWellFormed at)
+IsMarkupFault role text unread.TooDeep = IsBehindFront role text unread.TooDeep
+
+-- Of the text's characters the first that is no [2] Char stands behind so many bytes. A byte order mark in front counts as
+-- a character: it is a Char.
+pub record IsFirstNoChar (text : List ℕ) (at : ℕ) : Type 0 where
+  pub before : List ℕ
+  pub character : ℕ
+  pub behind : List ℕ
+  pub are : chars text ≡ before ++ character ∷ behind
+  pub pass : list_all is_char before ≡ true
+  pub fails : is_char character ≡ false
+  pub at_is : at ≡ length (encode_utf8_all before)
+
+-- the first fault of a text that is read as one text: such a character; nothing else is asked of it
+abbrev pub IsPlainFault : List ℕ → Unread → Type 0
+IsPlainFault text unread.NoMemory = Unit {0}
+IsPlainFault text unread.Encoding = ⊥
+IsPlainFault text (unread.NotUtf8 at) = ⊥
+IsPlainFault text (unread.NotWellFormed at) = IsFirstNoChar text at
+IsPlainFault text unread.TooDeep = ⊥
+
+-- the first fault of a text in this role
 abbrev pub IsTextFault : FileRole → List ℕ → Unread → Type 0
-IsTextFault role text unread.NoMemory = Unit {0}
-IsTextFault role text unread.Encoding = IsForeign (form_of role) (after_mark text)
-IsTextFault role text (unread.NotUtf8 at) = ⊥
-IsTextFault role text (unread.NotWellFormed at) = IsBehindFront role text (unread.NotWellFormed at)
-IsTextFault role text unread.TooDeep = IsBehindFront role text unread.TooDeep
+IsTextFault file.Document text fault = IsMarkupFault markup.Document text fault
+IsTextFault file.Entity text fault = IsMarkupFault markup.Entity text fault
+IsTextFault file.Text text fault = IsPlainFault text fault
 
 -- the first fault of a file: its bytes aren't UTF-8 behind so many, or that of its text
 abbrev pub IsFaultOf : FileRole → List ℕ → Unread → Type 0

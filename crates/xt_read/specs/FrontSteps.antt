@@ -4,16 +4,17 @@
 --   IsDeclaredAt     .. of a form, that names no other encoding than UTF-8
 --   IsFrontFault     why a front is not read
 --   front_items      the gaps of a mark and a declaration; front_marks: their marks
+--   one_text_items   the items of a text behind a mark; one_text_marks: their marks
 use Rattle.std.specs.Prelude.{◌≡◌, ◌⊎◌, ℕ, ◌<◌, ◌≤◌, Bool, List, [], ◌∷◌, ◌++◌, length, drop, ◌==◌, if◌then◌else◌, Option, None, Some}
 use Rattle.std.specs.Str.{IsCharBoundary}
 use Rattle.xt_spec.specs.Declaration.{Declaration, IsDeclaration}
 use Rattle.xt_spec.specs.Reading.{DeclaresUtf8}
 use Rattle.xt_lex.specs.declared.token.Span.{Span}
-use Rattle.xt_spec.specs.Tree.{Items, nil, leaf, gap}
+use Rattle.xt_spec.specs.Tree.{Items, nil, leaf, text_item, gap}
 use Rattle.xt_tree.specs.Meaning.{at_span}
 use Rattle.xt_tree.specs.Places.{Mark, span_mark}
 use Rattle.xt_read.specs.Front.{form_of, after_mark, IsForeign}
-use Rattle.xt_read.specs.declared.front.FileRole.{FileRole}
+use Rattle.xt_read.specs.declared.front.MarkupRole.{MarkupRole}
 use Rattle.xt_read.specs.declared.unread.Unread.{Unread}
 use Rattle.xt_read.specs.declared.unread.Unread.TheVariants as unread
 
@@ -33,7 +34,7 @@ pub record IsDeclaredAt (form : Declaration → Bool) (text : List ℕ) (at : �
   pub declares : DeclaresUtf8 form (at_span text span)
 
 -- want of memory, or another encoding
-abbrev pub IsFrontFault : FileRole → List ℕ → Unread → Type 0
+abbrev pub IsFrontFault : MarkupRole → List ℕ → Unread → Type 0
 IsFrontFault role text e = (e ≡ unread.NoMemory) ⊎ ((e ≡ unread.Encoding) × IsForeign (form_of role) (after_mark text))
 
 -- the gap of a byte order mark of so many bytes, or none
@@ -59,3 +60,17 @@ front_marks len declared = if len == 0 then declared_marks declared else span_ma
 abbrev pub front_len : ℕ → Option Span → ℕ
 front_len len None = len
 front_len len (Some span) = span.to
+
+-- the text from there to the end, where there is any
+abbrev pub text_part : List ℕ → ℕ → ℕ → Items
+text_part text len to = if len == to then nil else leaf text_item (at_span text (record { from = len; to = to })) nil
+
+-- the items of a text behind a byte order mark of so many bytes
+abbrev pub one_text_items : List ℕ → ℕ → ℕ → Items
+one_text_items text len to = mark_gap text len (text_part text len to)
+
+abbrev pub text_part_marks : ℕ → ℕ → List Mark
+text_part_marks len to = if len == to then [] else span_mark (record { from = len; to = to }) ∷ []
+
+abbrev pub one_text_marks : ℕ → ℕ → List Mark
+one_text_marks len to = if len == 0 then text_part_marks len to else span_mark (record { from = 0; to = len }) ∷ text_part_marks len to

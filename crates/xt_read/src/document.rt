@@ -2,15 +2,16 @@
 
 ghost use Rattle.std.specs.Prelude.{◌≡◌, ◌<◌, ◌+◌, ◌++◌, ◌^◌, length, IfOk, IfErr};
 ghost use Rattle.xt_spec.specs.Tree.{source_text};
-ghost use Rattle.xt_spec.specs.Reading.{document, entity, IsOrdered, IsReading};
+ghost use Rattle.xt_spec.specs.Reading.{document, entity, plain_text, IsOrdered, IsReading};
 ghost use Rattle.xt_tree.specs.Meaning.{items_in};
 ghost use Rattle.xt_tree.specs.Places.{marks_of, AreInPlace};
 ghost use Rattle.xt_read.specs.declared.front.FileRole.TheVariants as role;
-ghost use Rattle.xt_read.specs.Front.{role_of};
-ghost use Rattle.xt_read.specs.Faults.{IsTextFault, IsFaultOf};
+ghost use Rattle.xt_read.specs.Front.{role_of, markup_role_of};
+ghost use Rattle.xt_read.specs.Faults.{IsMarkupFault, IsTextFault, IsFaultOf};
 
-use crate::front::{FileRole, Front, read_front};
+use crate::front::{FileRole, Front, MarkupRole, read_front};
 use crate::items::read_body;
+use crate::text::read_one_text;
 use crate::unread::Unread;
 use sqlite_items::Items;
 use std::alloc::{AllocError, Global};
@@ -40,12 +41,12 @@ fn joined(front: Front, items: Items<Src>) -> Result<Items<Src>, AllocError>
     Ok(all)
 }
 
-/// The items of a text in its role.
-fn read_text_as(alloc: Global, text: &str, role: FileRole) -> Result<Items<Src>, Unread>
+/// The items of a text of markup in its role.
+fn read_markup(alloc: Global, text: &str, role: MarkupRole) -> Result<Items<Src>, Unread>
     requires fits { length text.now < 2 ^ 32 }
-    ensures value { IfOk result (λ items. IsOrdered (role_of role) (items_in text.now items) × (source_text (items_in text.now items) ≡ text.now)) }
+    ensures value { IfOk result (λ items. IsOrdered (markup_role_of role) (items_in text.now items) × (source_text (items_in text.now items) ≡ text.now)) }
     ensures place { IfOk result (λ items. AreInPlace text.now 0 (marks_of items) (length text.now)) }
-    ensures fault { IfErr result (IsTextFault role text.now) }
+    ensures fault { IfErr result (IsMarkupFault role text.now) }
 {
     let front = match read_front(alloc, text, role) {
         Ok(front) => front,
@@ -58,6 +59,20 @@ fn read_text_as(alloc: Global, text: &str, role: FileRole) -> Result<Items<Src>,
     match joined(front, items) {
         Ok(all) => Ok(all),
         Err(_) => Err(Unread::NoMemory),
+    }
+}
+
+/// The items of a text in its role.
+fn read_text_as(alloc: Global, text: &str, role: FileRole) -> Result<Items<Src>, Unread>
+    requires fits { length text.now < 2 ^ 32 }
+    ensures value { IfOk result (λ items. IsOrdered (role_of role) (items_in text.now items) × (source_text (items_in text.now items) ≡ text.now)) }
+    ensures place { IfOk result (λ items. AreInPlace text.now 0 (marks_of items) (length text.now)) }
+    ensures fault { IfErr result (IsTextFault role text.now) }
+{
+    match role {
+        FileRole::Document => read_markup(alloc, text, MarkupRole::Document),
+        FileRole::Entity => read_markup(alloc, text, MarkupRole::Entity),
+        FileRole::Text => read_one_text(alloc, text),
     }
 }
 
@@ -108,4 +123,23 @@ pub fn read_entity<L: Ledger>(
 {
     count(bytes, steps);
     read_as(alloc, bytes, FileRole::Entity)
+}
+
+/// The items of a file that is included as a text, with their places in its bytes, or its first fault: a byte order mark,
+/// where it begins with one, and behind it one text of all that follows.
+///
+/// Each byte counts one step, whatever the answer; want of memory may come before any other.
+pub fn read_text<L: Ledger>(
+    alloc: Global,
+    bytes: &[u8],
+    steps: &mut Steps<L>,
+) -> Result<Items<Src>, Unread>
+    requires fits { length bytes.now < 2 ^ 32 }
+    ensures value { IfOk result (λ items. IsReading plain_text bytes.now (items_in bytes.now items)) }
+    ensures place { IfOk result (λ items. AreInPlace bytes.now 0 (marks_of items) (length bytes.now)) }
+    ensures fault { IfErr result (IsFaultOf role.Text bytes.now) }
+    ensures count { steps.new ≡ steps.old + length bytes.now }
+{
+    count(bytes, steps);
+    read_as(alloc, bytes, FileRole::Text)
 }

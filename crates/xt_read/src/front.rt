@@ -18,22 +18,31 @@ use std::alloc::{AllocError, Global};
 use xt_lex::{Declaration, Kind, Span, next_token, read_declaration};
 use xt_tree::Src;
 
-/// In which role a file of XML is read.
+/// In which role a file is read.
 #[derive(Clone, Copy, Debug, PartialEq, Eq)]
 pub enum FileRole {
     Document,
     /// An external parsed entity.
     Entity,
+    /// Included as a text: any characters that a document may hold.
+    Text,
 }
 
-impl FileRole {
+/// In which role a file of markup is read.
+#[derive(Clone, Copy, Debug, PartialEq, Eq)]
+pub(crate) enum MarkupRole {
+    Document,
+    Entity,
+}
+
+impl MarkupRole {
     /// What follows in front.
     pub(crate) fn body(self) -> Body
         ensures { body_of result ≡ body_for self }
     {
         match self {
-            FileRole::Document => Body::Document,
-            FileRole::Entity => Body::Content,
+            MarkupRole::Document => Body::Document,
+            MarkupRole::Entity => Body::Content,
         }
     }
 
@@ -42,8 +51,8 @@ impl FileRole {
         ensures { result ≡ form_of self (values_of declaration.entry) }
     {
         match self {
-            FileRole::Document => declaration.is_xml_declaration(),
-            FileRole::Entity => declaration.is_text_declaration(),
+            MarkupRole::Document => declaration.is_xml_declaration(),
+            MarkupRole::Entity => declaration.is_text_declaration(),
         }
     }
 }
@@ -56,7 +65,7 @@ pub(crate) struct Front {
 }
 
 /// How many bytes the byte order mark takes, where the text begins with one.
-fn mark_len(text: &str) -> usize
+pub(crate) fn mark_len(text: &str) -> usize
     ensures value { result ≡ (if starts_with nat_eq text.now mark then 3 else 0) }
     ensures within { result ≤ length text.now }
     ensures cut { IsCharBoundary text.now result }
@@ -88,7 +97,7 @@ fn declaration_at(text: &str, at: usize) -> Option<Span>
 }
 
 /// The span of the declaration at a place, where it has the form that belongs there.
-fn declared_at(text: &str, at: usize, role: FileRole) -> Result<Option<Span>, Unread>
+fn declared_at(text: &str, at: usize, role: MarkupRole) -> Result<Option<Span>, Unread>
     requires within { at ≤ length text.now }
     requires boundary { IsCharBoundary text.now at }
     requires fits { length text.now < 2 ^ 32 }
@@ -141,7 +150,7 @@ fn front_len(mark: usize, declared: Option<Span>) -> usize
 }
 
 /// What stands in front of a body.
-pub(crate) fn read_front(alloc: Global, text: &str, role: FileRole) -> Result<Front, Unread>
+pub(crate) fn read_front(alloc: Global, text: &str, role: MarkupRole) -> Result<Front, Unread>
     requires fits { length text.now < 2 ^ 32 }
     ensures value { IfOk result (λ front. IsFront role text.now (items_in text.now front.gaps) front.to) }
     ensures place { IfOk result (λ front. AreInPlace text.now 0 (marks_of front.gaps) front.to) }

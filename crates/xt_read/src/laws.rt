@@ -2,7 +2,7 @@
 
 ghost use Rattle.std.specs.Prelude.{◌≡◌, ◌≢◌, ◌↔◌, List, ℕ};
 ghost use Rattle.xt_spec.specs.Tree.{Items, source_text};
-ghost use Rattle.xt_spec.specs.Reading.{document, entity, IsReading};
+ghost use Rattle.xt_spec.specs.Reading.{document, entity, plain_text, IsReading};
 ghost use Rattle.xt_read.specs.Run.{Body, IsBody, IsRead};
 ghost use Rattle.xt_read.specs.declared.front.FileRole.{FileRole};
 ghost use Rattle.xt_read.specs.declared.unread.Unread.{Unread};
@@ -18,6 +18,11 @@ pub fn one_reading()
 /// A text has at most one reading as an external parsed entity.
 pub fn one_entity()
     ensures law { (text : List ℕ) (a b : Items) → IsReading entity text a → IsReading entity text b → a ≡ b }
+{}
+
+/// A text has at most one reading as one text.
+pub fn one_text()
+    ensures law { (text : List ℕ) (a b : Items) → IsReading plain_text text a → IsReading plain_text text b → a ≡ b }
 {}
 
 /// The top of a document, and content, is what the longest tokens from left to right give, and nothing else is.

@@ -4,7 +4,7 @@
 
 ghost use Rattle.std.specs.Prelude.{◌≡◌};
 
-use crate::{Unread, has_content, read_document, read_entity};
+use crate::{Unread, has_content, read_document, read_entity, read_text};
 use sqlite_items::Items;
 use std::alloc::Global;
 use std::marker::Brand;
@@ -103,6 +103,24 @@ fn entity_over<L: Ledger>(alloc: Global, bytes: &[u8], blank: Blank) -> Result<S
 fn entity(alloc: Global, bytes: &[u8]) -> Result<String, Fail> {
     let blank = Blank::new(1);
     entity_over::<Brand>(alloc, bytes, blank)
+}
+
+fn plain_text_over<L: Ledger>(alloc: Global, bytes: &[u8], blank: Blank) -> Result<String, Fail>
+    requires name { blank.name ≡ L.name }
+    requires parts { blank.parts ≡ L.parts }
+    requires some { L.parts ≡ 1 }
+{
+    let mut steps = Steps::<L>::new(blank);
+    if bytes.len() > MOST_BYTES {
+        return Ok(String::new(alloc));
+    }
+    told(alloc, read_text(alloc, bytes, &mut steps))
+}
+
+/// What the bytes read as, as a text.
+fn plain_text(alloc: Global, bytes: &[u8]) -> Result<String, Fail> {
+    let blank = Blank::new(1);
+    plain_text_over::<Brand>(alloc, bytes, blank)
 }
 
 fn content_over<L: Ledger>(alloc: Global, bytes: &[u8], blank: Blank) -> Result<Option<bool>, Fail>
@@ -312,6 +330,39 @@ fn entities_have_these_faults(rt: HostRuntime) -> Result<(), Fail> {
 }
 
 #[test]
+fn texts_have_one_item_or_this_fault(rt: HostRuntime) -> Result<(), Fail> {
+    let alloc = rt.alloc();
+    for (text, answer) in [
+        ("", ""),
+        ("\u{FEFF}", "gap 0 3;"),
+        ("a<b>&c;\r\n]]>", "text 0 12;"),
+        ("\u{FEFF} x", "gap 0 3;text 3 5;"),
+        ("\u{FEFF}\u{FEFF}x", "gap 0 3;text 3 7;"),
+        ("x\u{FEFF}y", "text 0 5;"),
+        ("<?xml version='1.0' encoding='ISO-8859-1'?>", "text 0 43;"),
+        ("\t\u{7F}\u{85}\u{D7FF}\u{E000}\u{10FFFF}", "text 0 14;"),
+        ("\u{FFFD}\u{FF01}\u{1FFFE}", "text 0 10;"),
+        ("\0", "not well-formed 0"),
+        ("<\u{B}", "not well-formed 1"),
+        ("x\u{FFFE}", "not well-formed 1"),
+        ("\u{FEFF}\u{FFFF}", "not well-formed 3"),
+        ("\u{FEFF}x\u{1}", "not well-formed 4"),
+        ("\u{E9}\u{1F}z\0", "not well-formed 2"),
+        (
+            "\u{D7FF}\u{10000}\u{FFFD}\u{FFFF}\u{8}",
+            "not well-formed 10",
+        ),
+    ] {
+        assert_eq!(rt;
+            plain_text(alloc, text.as_bytes())?.as_str(),
+            answer,
+            "at {text}"
+        );
+    }
+    Ok(())
+}
+
+#[test]
 fn bytes_that_are_no_utf8_come_first(rt: HostRuntime) -> Result<(), Fail> {
     let alloc = rt.alloc();
     for (bytes, fault) in [
@@ -319,6 +370,7 @@ fn bytes_that_are_no_utf8_come_first(rt: HostRuntime) -> Result<(), Fail> {
         (b"\xC3".as_slice(), "not utf8 0"),
         (b"\xEF\xBB<a/>".as_slice(), "not utf8 0"),
         (b"x\xED\xA0\x80".as_slice(), "not utf8 1"),
+        (b"\0\xFF".as_slice(), "not utf8 1"),
         (
             b"<?xml version='1.0' encoding='ISO-8859-1'?>\xE9".as_slice(),
             "not utf8 43",
@@ -326,6 +378,7 @@ fn bytes_that_are_no_utf8_come_first(rt: HostRuntime) -> Result<(), Fail> {
     ] {
         assert_eq!(rt; document(alloc, bytes)?.as_str(), fault);
         assert_eq!(rt; entity(alloc, bytes)?.as_str(), fault);
+        assert_eq!(rt; plain_text(alloc, bytes)?.as_str(), fault);
     }
     Ok(())
 }

@@ -5,7 +5,8 @@ use std::alloc::{AllocError, AllocFailed, Global};
 
 /// Why a file isn't read: its first fault. Places are bytes of the file, from 0.
 ///
-/// The bytes are UTF-8, then a declaration names no other encoding, then tokens are taken from left to right.
+/// The bytes are UTF-8, then a declaration names no other encoding, then tokens are taken from left to right. A file that is
+/// read as a text has neither declaration nor tokens: it holds characters, and `Encoding` and `TooDeep` don't come.
 #[derive(Clone, Copy, Debug, PartialEq, Eq)]
 pub enum Unread {
     /// The bytes aren't UTF-8: so many of them are.
@@ -13,6 +14,7 @@ pub enum Unread {
     /// A declaration in front names another encoding, as `<?xml version="1.0" encoding="latin-1"?><a/>`.
     Encoding,
     /// At this place no token stands, or one that may not, as the first `]]>` of `<a>]]></a>`; or the file ends too early.
+    /// In a text: the first character that no document may hold.
     NotWellFormed { at: usize },
     /// A tag would begin an element at level 129.
     TooDeep,

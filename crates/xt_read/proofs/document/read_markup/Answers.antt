@@ -4,7 +4,7 @@ use Rattle.xt_read.specs.Progress.{body_of}
 use Rattle.xt_read.specs.Run.{Body}
 use Rattle.xt_read.specs.Faults.{IsBodyFault}
 use Rattle.xt_read.proofs.FrontPlaces.{text_fault, joined_items, joined_places}
-use Rattle.xt_read.proofs.document.read_text_as.Goals as goal
+use Rattle.xt_read.proofs.document.read_markup.Goals as goal
 
 pub returns-in-Err-read_body-clause-fault : goal.returns-in-Err-read_body-clause-fault
 returns-in-Err-read_body-clause-fault c =
