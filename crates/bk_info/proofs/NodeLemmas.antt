@@ -2,7 +2,7 @@
 use Rattle.std.proofs.Common.{◌≡◌, ◌∙◌, ℕ, List, [], ◌∷◌, ◌++◌, map, refl, sym, ap}
 use Rattle.std.proofs.lemmas.List.{map-append}
 use Rattle.xt_spec.specs.Namespace.{Expanded}
-use Rattle.bk_spec.specs.Node.{Origin, Nodes, no_nodes, element_node, text_node, comment_node, pi_node}
+use Rattle.bk_spec.specs.Node.{Origin, Nodes, element_node, text_node, comment_node, pi_node}
 use Rattle.bk_spec.specs.DocumentNodes.{Context}
 use Rattle.bk_info.specs.declared.attr.Attr.{Attr}
 use Rattle.bk_info.specs.declared.node.Node.{Node}

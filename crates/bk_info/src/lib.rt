@@ -10,6 +10,9 @@ mod fault;
 mod name;
 mod node;
 mod origin;
+mod plain;
+#[cfg(test)]
+mod tests;
 
 pub use attr::{Attr, How};
 pub use context::Context;
@@ -17,3 +20,4 @@ pub use fault::BookFault;
 pub use name::NodeName;
 pub use node::Node;
 pub use origin::Origin;
+pub use plain::{Plain, PlainAttr, infoset};

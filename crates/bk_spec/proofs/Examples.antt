@@ -1,7 +1,8 @@
--- The printed tree, computed.
-use Rattle.std.proofs.Common.{◌≡◌, refl, [], codes, false, bytes_eq}
-use Rattle.bk_spec.specs.Node.{owned, Nodes, no_nodes, element_node, text_node}
+-- The printed tree, and the infoset of nodes, computed.
+use Rattle.std.proofs.Common.{◌≡◌, refl, List, ℕ, [], codes, false, bytes_eq}
+use Rattle.bk_spec.specs.Node.{owned, Nodes, no_nodes, element_node, text_node, comment_node}
 use Rattle.bk_spec.specs.Print.{print_tree, quoted_text}
+use Rattle.bk_spec.specs.Infoset.{Plain, nothing_plain, element_plain, text_plain, comment_plain, infoset_of}
 
 hi : Nodes
 hi = element_node (record { space = []; local = codes "a"; attributes = []; base = codes "file:///book/book.xml"; lang = []; origin = owned (codes "book.xml") })
@@ -16,3 +17,25 @@ quotes_both = refl
 
 keeps_a_quote_apart : bytes_eq (quoted_text (codes "x\"y")) (codes "\"x\"y\"") ≡ false
 keeps_a_quote_apart = refl
+
+-- a text of two files, in front of others
+two_pieces : Nodes → Nodes
+two_pieces rest = text_node (codes "ab") (owned (codes "book.xml")) (text_node (codes "cd") (owned (codes "part.xml")) rest)
+
+joins_texts : infoset_of (two_pieces no_nodes) ≡ text_plain (codes "abcd") nothing_plain
+unfolding two_pieces
+joins_texts = refl
+
+keeps_texts_apart : infoset_of (two_pieces (comment_node (codes "!") (owned (codes "book.xml")) (two_pieces no_nodes)))
+    ≡ text_plain (codes "abcd") (comment_plain (codes "!") (text_plain (codes "abcd") nothing_plain))
+unfolding two_pieces
+keeps_texts_apart = refl
+
+gives_hi : infoset_of hi ≡ element_plain (record { space = []; local = codes "a"; attributes = []; base = codes "file:///book/book.xml"; lang = [] }) (text_plain (codes "hi") nothing_plain) nothing_plain
+unfolding hi
+gives_hi = refl
+
+-- two texts side by side are no infoset of two pieces
+not_two_texts : infoset_of (two_pieces no_nodes) ≡ text_plain (codes "ab") (text_plain (codes "cd") nothing_plain) → ⊥
+unfolding two_pieces
+not_two_texts same = absurd (cc)

@@ -3,3 +3,4 @@ pub mod Print
 pub mod Fault
 pub mod DocumentNodes
 pub mod Opening
+pub mod Infoset
