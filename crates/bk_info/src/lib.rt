@@ -19,5 +19,5 @@ pub use context::Context;
 pub use fault::BookFault;
 pub use name::NodeName;
 pub use node::Node;
-pub use origin::Origin;
+pub use origin::{Origin, Role};
 pub use plain::{Plain, PlainAttr, infoset};

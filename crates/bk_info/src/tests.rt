@@ -2,7 +2,7 @@
 //!
 //! An item is told as `(NAME ATTRIBUTES @BASE LANGUAGE ..)`, `[TEXT]`, `!COMMENT!` or `?TARGET DATA?`.
 
-use crate::{Attr, Context, How, Node, NodeName, Origin, Plain, infoset};
+use crate::{Attr, Context, How, Node, NodeName, Origin, Plain, Role, infoset};
 use bk_name::{Base, Name, uri_of};
 use sqlite_items::Items;
 use std::alloc::{AllocError, Global};
@@ -12,7 +12,7 @@ use xt_value::Scope;
 
 fn origin(alloc: Global, file: &[u8]) -> Result<Origin, AllocError> {
     match Name::read(alloc, file) {
-        Ok(name) => Origin::file(alloc, name),
+        Ok(name) => Origin::file(alloc, name, Role::Document),
         Err(_) => Err(AllocError),
     }
 }

@@ -1,12 +1,13 @@
 -- The printed tree, and the infoset of nodes, computed.
 use Rattle.std.proofs.Common.{◌≡◌, refl, List, ℕ, [], codes, false, bytes_eq}
+use Rattle.xt_spec.specs.Reading.{document, entity}
 use Rattle.bk_spec.specs.Node.{owned, Nodes, no_nodes, element_node, text_node, comment_node}
 use Rattle.bk_spec.specs.Print.{print_tree, quoted_text}
 use Rattle.bk_spec.specs.Infoset.{Plain, nothing_plain, element_plain, text_plain, comment_plain, infoset_of}
 
 hi : Nodes
-hi = element_node (record { space = []; local = codes "a"; attributes = []; base = codes "file:///book/book.xml"; lang = []; origin = owned (codes "book.xml") })
-    (text_node (codes "hi") (owned (codes "book.xml")) no_nodes) no_nodes
+hi = element_node (record { space = []; local = codes "a"; attributes = []; base = codes "file:///book/book.xml"; lang = []; origin = owned (codes "book.xml") document })
+    (text_node (codes "hi") (owned (codes "book.xml") document) no_nodes) no_nodes
 
 prints_hi : print_tree hi ≡ codes "element a in book.xml\n  base file:///book/book.xml\n  text \"hi\" in book.xml\n"
 unfolding hi
@@ -20,13 +21,13 @@ keeps_a_quote_apart = refl
 
 -- a text of two files, in front of others
 two_pieces : Nodes → Nodes
-two_pieces rest = text_node (codes "ab") (owned (codes "book.xml")) (text_node (codes "cd") (owned (codes "part.xml")) rest)
+two_pieces rest = text_node (codes "ab") (owned (codes "book.xml") document) (text_node (codes "cd") (owned (codes "part.xml") entity) rest)
 
 joins_texts : infoset_of (two_pieces no_nodes) ≡ text_plain (codes "abcd") nothing_plain
 unfolding two_pieces
 joins_texts = refl
 
-keeps_texts_apart : infoset_of (two_pieces (comment_node (codes "!") (owned (codes "book.xml")) (two_pieces no_nodes)))
+keeps_texts_apart : infoset_of (two_pieces (comment_node (codes "!") (owned (codes "book.xml") document) (two_pieces no_nodes)))
     ≡ text_plain (codes "abcd") (comment_plain (codes "!") (text_plain (codes "abcd") nothing_plain))
 unfolding two_pieces
 keeps_texts_apart = refl

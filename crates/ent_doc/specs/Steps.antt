@@ -13,6 +13,7 @@ use Rattle.std.specs.Prelude.{◌≡◌, ℕ, Bool, true, not, ◌&&◌, List, [
 use Rattle.std.specs.Borrow.{Bor}
 use Rattle.std.specs.List.{list_any}
 use Rattle.xt_spec.specs.Tree.{Items}
+use Rattle.xt_spec.specs.Reading.{document}
 use Rattle.xt_spec.specs.Namespace.{NamedValue, Binding, Expanded}
 use Rattle.xt_spec.specs.Content.{Content, HasContent}
 use Rattle.xt_spec.specs.Tag.{Attribute}
@@ -54,7 +55,7 @@ some_node (Some node) = node ∷ []
 
 -- an element's own and the context of what it holds, of what the code keeps
 abbrev pub element_in : List ℕ → Own → Element
-element_in file own = record { head = head_in own.name own.attrs own.context (owned file); context = own.context }
+element_in file own = record { head = head_in own.name own.attrs own.context (owned file document); context = own.context }
 
 -- the attribute of this name and value, as written in the file
 abbrev pub IsAttrOf : List ℕ → List Binding → NamedValue → Attr → Type 0

@@ -1,12 +1,13 @@
 //! The document whose nodes are made, and what is told of it.
 ghost use Rattle.std.specs.Prelude.{◌≡◌, IfOk, [], unwrap_or};
+ghost use Rattle.xt_spec.specs.Reading.{document};
 ghost use Rattle.xt_spec.specs.Namespace.{prefix_of};
 ghost use Rattle.xt_tree.specs.Meaning.{at_span};
 ghost use Rattle.bk_spec.specs.Node.{owned};
 ghost use Rattle.bk_spec.specs.Fault as spec;
 ghost use Rattle.bk_info.specs.Nodes.{fault_in};
 
-use bk_info::{BookFault, Origin};
+use bk_info::{BookFault, Origin, Role};
 use bk_name::Name;
 use std::alloc::{AllocError, Global};
 use xt_lex::Span;
@@ -18,7 +19,7 @@ pub(crate) struct Source<'a> {
     pub(crate) file: &'a Name,
     pub(crate) text: &'a str,
     pub(crate) origin: Origin,
-    ghost owned: { origin ≡ owned file.now },
+    ghost owned: { origin ≡ owned file.now document },
 }
 
 impl<'a> Source<'a> {
@@ -31,7 +32,7 @@ impl<'a> Source<'a> {
         ensures file { IfOk result (λ source. source.file.now ≡ file.now) }
         ensures text { IfOk result (λ source. source.text.now ≡ text.now) }
     {
-        let origin = Origin::file(alloc, file.share()?)?;
+        let origin = Origin::file(alloc, file.share()?, Role::Document)?;
         Ok(Source { file, text, origin })
     }
 

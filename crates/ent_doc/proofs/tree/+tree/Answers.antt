@@ -1,5 +1,6 @@
 use Rattle.std.proofs.Common.{◌≡◌, ◌∙◌, ap, ◌∷◌, [], arith}
 use Rattle.std.proofs.lemmas.Result.{err_from_is_err_and, IfErr-weaker}
+use Rattle.xt_spec.specs.Reading.{document}
 use Rattle.xt_spec.specs.Tree.{Items}
 use Rattle.xt_tree.specs.Meaning.{items_in}
 use Rattle.bk_spec.specs.Node.{Origin, owned, element_node}
@@ -36,7 +37,7 @@ element_node-returns-in_err-kids-clause-fault t c =
 
 pub element_node-returns-clause-value : goal.element_node-returns-clause-value
 element_node-returns-clause-value t c close rest =
-    let own : c.in_ok-share.field-0 ≡ owned c.args.source.now.file.now = c.in_ok-share.ensures.value ∙ c.args.source.now.owned in
+    let own : c.in_ok-share.field-0 ≡ owned c.args.source.now.file.now document = c.in_ok-share.ensures.value ∙ c.args.source.now.owned in
     element_gives c.args.source.now.text.now c.args.source.now.file.now c.args.context.now c.args.tag.now (items_in c.args.source.now.text.now c.args.kids.now) rest close c.args.work.now.count c.count_one.new.self.count c.nodes_of.new.work.count c.in_ok-qname.qname.now c.as_slice.result.now c.in_ok-values.values.items
     (element_in c.args.source.now.file.now c.in_ok-own.own) c.in_ok-kids.kids (code.Elem c.in_ok-own.own.name c.in_ok-own.own.attrs c.in_ok-own.own.context c.in_ok-kids.kids c.in_ok-share.field-0)
     c.requires.tag c.in_ok-qname.ensures.value c.as_slice.ensures.value c.in_ok-values.ensures.value c.in_ok-own.ensures.value c.in_ok-count_one.ensures.room c.in_ok-count_one.ensures.count c.in_ok-kids.ensures.value c.in_ok-kids.ensures.count
