@@ -6,7 +6,7 @@ use Rattle.xt_spec.specs.Namespace.{Expanded}
 use Rattle.bk_spec.specs.Node.{Origin, Nodes}
 use Rattle.bk_spec.specs.DocumentNodes.{Context}
 use Rattle.bk_spec.specs.Infoset as spec
-use Rattle.bk_spec.specs.Infoset.{nothing_plain, element_plain, text_plain, comment_plain, pi_plain, text_before, plain_attr, plain_head, infoset_of}
+use Rattle.bk_spec.specs.Infoset.{nothing_plain, element_plain, text_plain, comment_plain, pi_plain, text_before, plain_head, infoset_of}
 use Rattle.bk_info.specs.declared.attr.Attr.{Attr}
 use Rattle.bk_info.specs.declared.node.Node.{Node}
 use Rattle.bk_info.specs.declared.node.Node.TheVariants as node
@@ -16,6 +16,7 @@ use Rattle.bk_info.specs.declared.plain.Plain.TheVariants as code
 use Rattle.bk_info.specs.declared.plain.Plain.TheOpen.{Plain-F}
 use Rattle.bk_info.specs.declared.plain.Plain.TheFolds.{fold-roll-Plain}
 use Rattle.bk_info.specs.Nodes.{head_in, node_in, nodes_in}
+use Rattle.bk_info.specs.Address.{Address}
 use Rattle.bk_info.specs.Plains.{plain_head_in, in_front, plain_step, plain_in, plains_before, plains_in, text_items, so_far}
 use Rattle.bk_info.proofs.NodeLemmas.{element_is, text_is, comment_is, pi_is}
 
@@ -82,40 +83,40 @@ put_item items new text after item made others is none item_is apart =
     ∙ plains-append (items ++ text_items text) (item ∷ []) others ∙ plains-append items (text_items text) (plain_in item others)
     ∙ ap (λ (p : spec.Plain). plains_before items (plains_before (text_items text) p)) item_is ∙ ap (λ (p : spec.Plain). plains_before items p) (put_text text (made others) apart)
 
-pub element_put : (items new : List Plain) (text after : List ℕ) (n : Node) (name : Expanded) (attrs list : List Attr) (context : Context) (kids held : List Node) (origin : Origin) (item : Plain) (inner : List Plain)
-    → n ≡ node.Elem name attrs context kids origin → list ≡ attrs → held ≡ kids → plains_in inner ≡ infoset_of (nodes_in held)
+pub element_put : (items new : List Plain) (text after : List ℕ) (n : Node) (name : Expanded) (attrs list : List Attr) (context : Context) (kids held : List Node) (address : Address) (item : Plain) (inner : List Plain)
+    → n ≡ node.Elem name attrs context kids address → list ≡ attrs → held ≡ kids → plains_in inner ≡ infoset_of (nodes_in held)
     → ((its : Origin) (others : spec.Plain) → plain_in item others ≡ element_plain (plain_head (head_in name list context its)) (plains_in inner) others)
     → new ≡ (items ++ text_items text) ++ item ∷ [] → after ≡ []
     → (rest : Nodes) → so_far new after (infoset_of rest) ≡ so_far items text (infoset_of (node_in n rest))
-element_put items new text after n name attrs list context kids held origin item inner is same_list same_kids same_inner made put none rest =
-    let head = plain_head (head_in name attrs context origin) in
+element_put items new text after n name attrs list context kids held address item inner is same_list same_kids same_inner made put none rest =
+    let head = plain_head (head_in name attrs context address.origin) in
     let within : plains_in inner ≡ infoset_of (nodes_in kids) = same_inner ∙ ap (λ (l : List Node). infoset_of (nodes_in l)) same_kids in
     put_item items new text after item (λ others. element_plain head (infoset_of (nodes_in kids)) others) (infoset_of rest) put none
-    (made origin (infoset_of rest) ∙ ap (λ (l : List Attr). element_plain (plain_head (head_in name l context origin)) (plains_in inner) (infoset_of rest)) same_list ∙ ap (λ (p : spec.Plain). element_plain head p (infoset_of rest)) within)
+    (made address.origin (infoset_of rest) ∙ ap (λ (l : List Attr). element_plain (plain_head (head_in name l context address.origin)) (plains_in inner) (infoset_of rest)) same_list ∙ ap (λ (p : spec.Plain). element_plain head p (infoset_of rest)) within)
     (λ b value. refl)
-    ∙ ap (so_far items text) (sym (ap infoset_of (ap (λ (x : Node). node_in x rest) is ∙ element_is name attrs context kids origin rest)))
+    ∙ ap (so_far items text) (sym (ap infoset_of (ap (λ (x : Node). node_in x rest) is ∙ element_is name attrs context kids address rest)))
 
-pub text_put : (items : List Plain) (text after : List ℕ) (n : Node) (value more : List ℕ) (origin : Origin) → n ≡ node.Text value origin → more ≡ value → after ≡ text ++ more
+pub text_put : (items : List Plain) (text after : List ℕ) (n : Node) (value more : List ℕ) (address : Address) → n ≡ node.Text value address → more ≡ value → after ≡ text ++ more
     → (rest : Nodes) → so_far items after (infoset_of rest) ≡ so_far items text (infoset_of (node_in n rest))
-text_put items text after n value more origin is same put rest =
+text_put items text after n value more address is same put rest =
     ap (λ (t : List ℕ). so_far items t (infoset_of rest)) (put ∙ ap (λ (v : List ℕ). text ++ v) same) ∙ ap (plains_before items) (joins text value (infoset_of rest))
-    ∙ ap (so_far items text) (sym (ap infoset_of (ap (λ (x : Node). node_in x rest) is ∙ text_is value origin rest)))
+    ∙ ap (so_far items text) (sym (ap infoset_of (ap (λ (x : Node). node_in x rest) is ∙ text_is value address rest)))
 
-pub comment_put : (items new : List Plain) (text after : List ℕ) (n : Node) (value copy : List ℕ) (origin : Origin) → n ≡ node.Comment value origin → copy ≡ value
+pub comment_put : (items new : List Plain) (text after : List ℕ) (n : Node) (value copy : List ℕ) (address : Address) → n ≡ node.Comment value address → copy ≡ value
     → new ≡ (items ++ text_items text) ++ code.Comment copy ∷ [] → after ≡ []
     → (rest : Nodes) → so_far new after (infoset_of rest) ≡ so_far items text (infoset_of (node_in n rest))
-comment_put items new text after n value copy origin is same put none rest =
+comment_put items new text after n value copy address is same put none rest =
     put_item items new text after (code.Comment copy) (λ others. comment_plain value others) (infoset_of rest) put none
     (comment_item copy (infoset_of rest) ∙ ap (λ (v : List ℕ). comment_plain v (infoset_of rest)) same) (λ b more. refl)
-    ∙ ap (so_far items text) (sym (ap infoset_of (ap (λ (x : Node). node_in x rest) is ∙ comment_is value origin rest)))
+    ∙ ap (so_far items text) (sym (ap infoset_of (ap (λ (x : Node). node_in x rest) is ∙ comment_is value address rest)))
 
-pub pi_put : (items new : List Plain) (text after : List ℕ) (n : Node) (target value name copy : List ℕ) (origin : Origin) → n ≡ node.Pi target value origin → name ≡ target → copy ≡ value
+pub pi_put : (items new : List Plain) (text after : List ℕ) (n : Node) (target value name copy : List ℕ) (address : Address) → n ≡ node.Pi target value address → name ≡ target → copy ≡ value
     → new ≡ (items ++ text_items text) ++ code.Pi name copy ∷ [] → after ≡ []
     → (rest : Nodes) → so_far new after (infoset_of rest) ≡ so_far items text (infoset_of (node_in n rest))
-pi_put items new text after n target value name copy origin is same_target same put none rest =
+pi_put items new text after n target value name copy address is same_target same put none rest =
     put_item items new text after (code.Pi name copy) (λ others. pi_plain target value others) (infoset_of rest) put none
     (pi_item name copy (infoset_of rest) ∙ ap (λ (t : List ℕ). pi_plain t copy (infoset_of rest)) same_target ∙ ap (λ (v : List ℕ). pi_plain target v (infoset_of rest)) same) (λ b more. refl)
-    ∙ ap (so_far items text) (sym (ap infoset_of (ap (λ (x : Node). node_in x rest) is ∙ pi_is target value origin rest)))
+    ∙ ap (so_far items text) (sym (ap infoset_of (ap (λ (x : Node). node_in x rest) is ∙ pi_is target value address rest)))
 
 none_left : {A : Type 0} (xs : List A) (i : ℕ) → length xs ≤ i → drop i xs ≡ []
 none_left xs i past = grind (arith, common_steps)

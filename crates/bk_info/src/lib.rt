@@ -4,6 +4,7 @@
 //! Contracts see plain values (`bk_spec::Node`). No file is read here (`ent_doc`).
 #![tactic(auto)]
 
+mod address;
 mod attr;
 mod context;
 mod fault;
@@ -14,6 +15,7 @@ mod plain;
 #[cfg(test)]
 mod tests;
 
+pub use address::{Address, Siblings};
 pub use attr::{Attr, How};
 pub use context::Context;
 pub use fault::BookFault;

@@ -2,7 +2,7 @@
 //!
 //! An item is told as `(NAME ATTRIBUTES @BASE LANGUAGE ..)`, `[TEXT]`, `!COMMENT!` or `?TARGET DATA?`.
 
-use crate::{Attr, Context, How, Node, NodeName, Origin, Plain, Role, infoset};
+use crate::{Address, Attr, Context, How, Node, NodeName, Origin, Plain, Role, Siblings, infoset};
 use bk_name::{Base, Name, uri_of};
 use sqlite_items::Items;
 use std::alloc::{AllocError, Global};
@@ -10,11 +10,12 @@ use std::test::Fail;
 use xt_table::{Seq, SharedText, Txt};
 use xt_value::Scope;
 
-fn origin(alloc: Global, file: &[u8]) -> Result<Origin, AllocError> {
-    match Name::read(alloc, file) {
-        Ok(name) => Origin::file(alloc, name, Role::Document),
-        Err(_) => Err(AllocError),
-    }
+/// The first item of a file.
+fn address(alloc: Global, file: &[u8]) -> Result<Address, AllocError> {
+    let Ok(name) = Name::read(alloc, file) else {
+        return Err(AllocError);
+    };
+    Siblings::top(alloc, Origin::file(alloc, name, Role::Document)?)?.address(0)
 }
 
 fn context(alloc: Global, file: &[u8], lang: &str) -> Result<Context, AllocError> {
@@ -54,14 +55,14 @@ fn attr(
 fn text(alloc: Global, file: &[u8], value: &str) -> Result<Node, AllocError> {
     Ok(Node::Text {
         value: Txt::from_str(alloc, value)?,
-        origin: origin(alloc, file)?,
+        address: address(alloc, file)?,
     })
 }
 
 fn comment(alloc: Global, value: &str) -> Result<Node, AllocError> {
     Ok(Node::Comment {
         value: Txt::from_str(alloc, value)?,
-        origin: origin(alloc, b"b.xml")?,
+        address: address(alloc, b"b.xml")?,
     })
 }
 
@@ -69,7 +70,7 @@ fn pi(alloc: Global, target: &str, value: &str) -> Result<Node, AllocError> {
     Ok(Node::Pi {
         target: SharedText::from_str(alloc, target)?,
         value: Txt::from_str(alloc, value)?,
-        origin: origin(alloc, b"b.xml")?,
+        address: address(alloc, b"b.xml")?,
     })
 }
 
@@ -85,7 +86,7 @@ fn element(
         attrs: Seq::from_vec(attrs),
         context,
         kids: Items::from_vec(kids),
-        origin: origin(alloc, b"b.xml")?,
+        address: address(alloc, b"b.xml")?,
     })
 }
 

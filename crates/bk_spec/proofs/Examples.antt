@@ -1,7 +1,9 @@
--- The printed tree, and the infoset of nodes, computed.
-use Rattle.std.proofs.Common.{◌≡◌, refl, List, ℕ, [], codes, false, bytes_eq}
+-- The printed tree, the infoset of nodes, and the paths of items that give nodes, computed.
+use Rattle.std.proofs.Common.{◌≡◌, refl, List, ℕ, [], ◌∷◌, codes, false, bytes_eq, Some, None}
 use Rattle.xt_spec.specs.Reading.{document, entity}
+use Rattle.xt_spec.specs.Tree.{Items, nil, element, leaf, text_item, comment_item, gap}
 use Rattle.bk_spec.specs.Node.{owned, Nodes, no_nodes, element_node, text_node, comment_node}
+use Rattle.bk_spec.specs.NodePaths.{node_paths}
 use Rattle.bk_spec.specs.Print.{print_tree, quoted_text}
 use Rattle.bk_spec.specs.Infoset.{Plain, nothing_plain, element_plain, text_plain, comment_plain, infoset_of}
 
@@ -40,3 +42,19 @@ gives_hi = refl
 not_two_texts : infoset_of (two_pieces no_nodes) ≡ text_plain (codes "ab") (text_plain (codes "cd") nothing_plain) → ⊥
 unfolding two_pieces
 not_two_texts same = absurd (cc)
+
+-- `<!--c--><a><![CDATA[]]>x<b/></a>` behind white space: the gap and the void text give no node, and count as indices
+items : Items
+items = leaf gap (codes " ") (leaf comment_item (codes "<!--c-->")
+    (element (codes "<a>") (leaf text_item (codes "<![CDATA[]]>") (leaf text_item (codes "x") (element (codes "<b/>") nil None nil))) (Some (codes "</a>")) nil))
+
+gives_these_paths : node_paths [] 0 items ≡ (1 ∷ []) ∷ (2 ∷ []) ∷ (2 ∷ 1 ∷ []) ∷ (2 ∷ 2 ∷ []) ∷ []
+unfolding items
+gives_these_paths = refl
+
+-- within the element at a path
+gives_these_below : node_paths (4 ∷ []) 1 (leaf text_item (codes "x") nil) ≡ (4 ∷ 1 ∷ []) ∷ []
+gives_these_below = refl
+
+no_path_of_a_gap : node_paths [] 0 (leaf gap (codes " ") nil) ≡ (0 ∷ []) ∷ [] → ⊥
+no_path_of_a_gap same = absurd (cc)

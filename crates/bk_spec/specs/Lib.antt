@@ -4,3 +4,4 @@ pub mod Fault
 pub mod DocumentNodes
 pub mod Opening
 pub mod Infoset
+pub mod NodePaths
