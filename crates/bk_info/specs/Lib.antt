@@ -1,2 +1,6 @@
 pub mod Origins
 pub mod Nodes
+pub mod Plains
+pub mod Address
+pub mod Within
+pub mod Paths

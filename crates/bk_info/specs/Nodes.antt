@@ -53,10 +53,10 @@ joined [] others = others
 joined (node ∷ nodes) others = node (joined nodes others)
 
 abbrev pub node_step : Node-F (Nodes → Nodes) → Nodes → Nodes
-node_step (Elem name attrs context kids origin) others = element_node (head_in name attrs context origin) (joined kids no_nodes) others
-node_step (Text value origin) others = text_node value origin others
-node_step (Comment value origin) others = comment_node value origin others
-node_step (Pi target value origin) others = pi_node target value origin others
+node_step (Elem name attrs context kids address) others = element_node (head_in name attrs context address.origin) (joined kids no_nodes) others
+node_step (Text value address) others = text_node value address.origin others
+node_step (Comment value address) others = comment_node value address.origin others
+node_step (Pi target value address) others = pi_node target value address.origin others
 
 -- a node, and those behind it
 abbrev pub node_in : Node → Nodes → Nodes

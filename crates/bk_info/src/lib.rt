@@ -4,16 +4,22 @@
 //! Contracts see plain values (`bk_spec::Node`). No file is read here (`ent_doc`).
 #![tactic(auto)]
 
+mod address;
 mod attr;
 mod context;
 mod fault;
 mod name;
 mod node;
 mod origin;
+mod plain;
+#[cfg(test)]
+mod tests;
 
+pub use address::{Address, Siblings};
 pub use attr::{Attr, How};
 pub use context::Context;
 pub use fault::BookFault;
 pub use name::NodeName;
 pub use node::Node;
-pub use origin::Origin;
+pub use origin::{Origin, Role};
+pub use plain::{Plain, PlainAttr, infoset};

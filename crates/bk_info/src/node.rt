@@ -1,8 +1,8 @@
 //! Nodes.
+use crate::address::Address;
 use crate::attr::Attr;
 use crate::context::Context;
 use crate::name::NodeName;
-use crate::origin::Origin;
 use sqlite_items::Items;
 use xt_table::{Seq, SharedText, Txt};
 
@@ -15,22 +15,22 @@ pub enum Node {
         attrs: Seq<Attr>,
         context: Context,
         kids: Items<Node>,
-        origin: Origin,
+        address: Address,
     },
     /// A text piece.
     Text {
         value: Txt,
-        origin: Origin,
+        address: Address,
     },
     /// A comment.
     Comment {
         value: Txt,
-        origin: Origin,
+        address: Address,
     },
     /// A processing instruction.
     Pi {
         target: SharedText,
         value: Txt,
-        origin: Origin,
+        address: Address,
     },
 }

@@ -1,17 +1,29 @@
 //! What a node came from.
-ghost use Rattle.std.specs.Prelude.{◌≡◌, IfOk, MatchOption};
+ghost use Rattle.std.specs.Prelude.{◌≡◌, IfOk, MatchOption, option_map};
+ghost use Rattle.xt_spec.specs.Reading as xml;
 ghost use Rattle.bk_spec.specs.Node.{owned, from_entity};
-ghost use Rattle.bk_info.specs.Origins.{file_of};
+ghost use Rattle.bk_info.specs.Origins.{role_in, file_of, role_of};
 
 use bk_name::Name;
 use std::alloc::{AllocError, Global};
 use std::marker::Model;
 use xt_table::{Shared, SharedText};
 
-/// A file; or an internal entity, and the file that holds the reference.
+/// In which role a file is read.
+#[derive(Clone, Copy, Debug, PartialEq, Eq)]
+pub enum Role {
+    /// As a document.
+    Document,
+    /// As an external parsed entity.
+    Entity,
+    /// As a text that is no XML.
+    Text,
+}
+
+/// A file in a role; or an internal entity, and the file that holds the reference.
 #[derive(Debug, Drop)]
 enum Source {
-    File(Name),
+    File(Name, Role),
     Entity(Name, SharedText),
 }
 
@@ -32,12 +44,12 @@ impl Model for Origin {
 }
 
 impl Origin {
-    /// The nodes of a file. The one error is want of memory.
-    pub fn file(alloc: Global, name: Name) -> Result<Origin, AllocError>
-        ensures value { IfOk result (λ origin. origin ≡ owned name) }
+    /// The nodes of a file that is read in this role. The one error is want of memory.
+    pub fn file(alloc: Global, name: Name, role: Role) -> Result<Origin, AllocError>
+        ensures value { IfOk result (λ origin. origin ≡ owned name (role_in role)) }
     {
         Ok(Origin {
-            source: Shared::new(alloc, Source::File(name))?,
+            source: Shared::new(alloc, Source::File(name, role))?,
         })
     }
 
@@ -46,17 +58,27 @@ impl Origin {
         ensures value { result.now ≡ file_of self.now }
     {
         match self.source.get() {
-            Source::File(name) => name.as_str(),
+            Source::File(name, _) => name.as_str(),
             Source::Entity(name, _) => name.as_str(),
+        }
+    }
+
+    /// The role in which the file is read for the node; none for an internal entity.
+    pub fn role(&self) -> Option<Role>
+        ensures value { option_map role_in result ≡ role_of self.now }
+    {
+        match self.source.get() {
+            Source::File(_, role) => Some(*role),
+            Source::Entity(_, _) => None,
         }
     }
 
     /// The name of the entity, where it is one.
     pub fn entity(&self) -> Option<&str>
-        ensures value { MatchOption result (self.now ≡ owned (file_of self.now)) (λ entity. self.now ≡ from_entity (file_of self.now) entity.now) }
+        ensures value { MatchOption result ((role : xml.Role) × (self.now ≡ owned (file_of self.now) role)) (λ entity. self.now ≡ from_entity (file_of self.now) entity.now) }
     {
         match self.source.get() {
-            Source::File(_) => None,
+            Source::File(_, _) => None,
             Source::Entity(_, entity) => Some(entity.as_str()),
         }
     }

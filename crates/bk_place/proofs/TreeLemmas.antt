@@ -5,6 +5,7 @@ use Rattle.xt_spec.specs.Namespace.{Expanded}
 use Rattle.bk_spec.specs.Node.{Origin, Head, Nodes, no_nodes, element_node, text_node, comment_node, pi_node}
 use Rattle.bk_spec.specs.Print.{deeper, element_line, base_line, attribute_line, attribute_lines, text_line, comment_line, pi_line, print_nodes, print_tree}
 use Rattle.bk_spec.specs.DocumentNodes.{Context}
+use Rattle.bk_info.specs.Address.{Address}
 use Rattle.bk_info.specs.declared.attr.Attr.{Attr}
 use Rattle.bk_info.specs.declared.node.Node.{Node}
 use Rattle.bk_info.specs.declared.node.Node.TheVariants as node
@@ -63,13 +64,13 @@ own_added indent parent head base old a b new first same second third =
 abbrev pub Prints : List ℕ → Option (List ℕ) → Node → List ℕ → List ℕ → Type 0
 Prints indent parent n old new = (others : Nodes) → old ++ print_nodes indent parent (node_in n others) ≡ new ++ print_nodes indent parent others
 
-pub element_prints : (indent level : List ℕ) (parent : Option (List ℕ)) (n : Node) (name : Expanded) (attrs given : List Attr) (context : Context) (kids ks : List Node) (origin : Origin) (base old mid new : List ℕ)
-    → n ≡ node.Elem name attrs context kids origin → level ≡ indent → given ≡ attrs → ks ≡ kids → base ≡ context.base → mid ≡ old ++ own_lines level parent (head_in name given context origin) → new ≡ mid ++ print_nodes (deeper indent) (Some base) (nodes_in ks)
+pub element_prints : (indent level : List ℕ) (parent : Option (List ℕ)) (n : Node) (name : Expanded) (attrs given : List Attr) (context : Context) (kids ks : List Node) (address : Address) (origin : Origin) (base old mid new : List ℕ)
+    → n ≡ node.Elem name attrs context kids address → origin ≡ address.origin → level ≡ indent → given ≡ attrs → ks ≡ kids → base ≡ context.base → mid ≡ old ++ own_lines level parent (head_in name given context origin) → new ≡ mid ++ print_nodes (deeper indent) (Some base) (nodes_in ks)
     → Prints indent parent n old new
-element_prints indent level parent n name attrs given context kids ks origin base old mid new is same_level same_attrs same_kids same_base first second others =
-    let head = head_in name attrs context origin in
-    let node_is : node_in n others ≡ element_node head (nodes_in kids) others = ap (λ (x : Node). node_in x others) is ∙ element_is name attrs context kids origin others in
-    let own : mid ≡ old ++ own_lines indent parent head = first ∙ ap (λ (l : List ℕ). old ++ own_lines l parent (head_in name given context origin)) same_level ∙ ap (λ (l : List Attr). old ++ own_lines indent parent (head_in name l context origin)) same_attrs in
+element_prints indent level parent n name attrs given context kids ks address origin base old mid new is same_origin same_level same_attrs same_kids same_base first second others =
+    let head = head_in name attrs context address.origin in
+    let node_is : node_in n others ≡ element_node head (nodes_in kids) others = ap (λ (x : Node). node_in x others) is ∙ element_is name attrs context kids address others in
+    let own : mid ≡ old ++ own_lines indent parent head = first ∙ ap (λ (l : List ℕ). old ++ own_lines l parent (head_in name given context origin)) same_level ∙ ap (λ (l : List Attr). old ++ own_lines indent parent (head_in name l context origin)) same_attrs ∙ ap (λ (o : Origin). old ++ own_lines indent parent (head_in name attrs context o)) same_origin in
     let inner : new ≡ mid ++ print_nodes (deeper indent) (Some context.base) (nodes_in kids) =
     second ∙ ap (λ (l : List Node). mid ++ print_nodes (deeper indent) (Some base) (nodes_in l)) same_kids ∙ ap (λ (b : List ℕ). mid ++ print_nodes (deeper indent) (Some b) (nodes_in kids)) same_base in
     ap (λ (ns : Nodes). old ++ print_nodes indent parent ns) node_is ∙ ap (λ (l : List ℕ). old ++ l) (element_lines indent parent head (nodes_in kids) others)
@@ -79,19 +80,19 @@ line_prints : (indent : List ℕ) (parent : Option (List ℕ)) (n : Node) (line 
 line_prints indent parent n line old new is added others =
     ap (λ (l : List ℕ). old ++ l) (is others) ∙ sym (append_assoc old line (print_nodes indent parent others)) ∙ ap (λ (l : List ℕ). l ++ print_nodes indent parent others) (sym added)
 
-pub text_prints : (indent level : List ℕ) (parent : Option (List ℕ)) (n : Node) (value text : List ℕ) (origin : Origin) (old new : List ℕ) → n ≡ node.Text value origin → level ≡ indent → text ≡ value → new ≡ old ++ text_line level text origin → Prints indent parent n old new
-text_prints indent level parent n value text origin old new is same_level same added =
-    line_prints indent parent n (text_line indent value origin) old new (λ others. ap (print_nodes indent parent) (ap (λ (x : Node). node_in x others) is ∙ text_is value origin others)) (added ∙ ap (λ (l : List ℕ). old ++ text_line l text origin) same_level ∙ ap (λ (v : List ℕ). old ++ text_line indent v origin) same)
+pub text_prints : (indent level : List ℕ) (parent : Option (List ℕ)) (n : Node) (value text : List ℕ) (address : Address) (origin : Origin) (old new : List ℕ) → n ≡ node.Text value address → origin ≡ address.origin → level ≡ indent → text ≡ value → new ≡ old ++ text_line level text origin → Prints indent parent n old new
+text_prints indent level parent n value text address origin old new is same_origin same_level same added =
+    line_prints indent parent n (text_line indent value address.origin) old new (λ others. ap (print_nodes indent parent) (ap (λ (x : Node). node_in x others) is ∙ text_is value address others)) (added ∙ ap (λ (l : List ℕ). old ++ text_line l text origin) same_level ∙ ap (λ (v : List ℕ). old ++ text_line indent v origin) same ∙ ap (λ (o : Origin). old ++ text_line indent value o) same_origin)
 
-pub comment_prints : (indent level : List ℕ) (parent : Option (List ℕ)) (n : Node) (value text : List ℕ) (origin : Origin) (old new : List ℕ) → n ≡ node.Comment value origin → level ≡ indent → text ≡ value → new ≡ old ++ comment_line level text origin → Prints indent parent n old new
-comment_prints indent level parent n value text origin old new is same_level same added =
-    line_prints indent parent n (comment_line indent value origin) old new (λ others. ap (print_nodes indent parent) (ap (λ (x : Node). node_in x others) is ∙ comment_is value origin others)) (added ∙ ap (λ (l : List ℕ). old ++ comment_line l text origin) same_level ∙ ap (λ (v : List ℕ). old ++ comment_line indent v origin) same)
+pub comment_prints : (indent level : List ℕ) (parent : Option (List ℕ)) (n : Node) (value text : List ℕ) (address : Address) (origin : Origin) (old new : List ℕ) → n ≡ node.Comment value address → origin ≡ address.origin → level ≡ indent → text ≡ value → new ≡ old ++ comment_line level text origin → Prints indent parent n old new
+comment_prints indent level parent n value text address origin old new is same_origin same_level same added =
+    line_prints indent parent n (comment_line indent value address.origin) old new (λ others. ap (print_nodes indent parent) (ap (λ (x : Node). node_in x others) is ∙ comment_is value address others)) (added ∙ ap (λ (l : List ℕ). old ++ comment_line l text origin) same_level ∙ ap (λ (v : List ℕ). old ++ comment_line indent v origin) same ∙ ap (λ (o : Origin). old ++ comment_line indent value o) same_origin)
 
-pub pi_prints : (indent level : List ℕ) (parent : Option (List ℕ)) (n : Node) (target value name text : List ℕ) (origin : Origin) (old new : List ℕ) → n ≡ node.Pi target value origin → level ≡ indent → name ≡ target → text ≡ value → new ≡ old ++ pi_line level name text origin
+pub pi_prints : (indent level : List ℕ) (parent : Option (List ℕ)) (n : Node) (target value name text : List ℕ) (address : Address) (origin : Origin) (old new : List ℕ) → n ≡ node.Pi target value address → origin ≡ address.origin → level ≡ indent → name ≡ target → text ≡ value → new ≡ old ++ pi_line level name text origin
     → Prints indent parent n old new
-pi_prints indent level parent n target value name text origin old new is same_level same_target same added =
-    line_prints indent parent n (pi_line indent target value origin) old new (λ others. ap (print_nodes indent parent) (ap (λ (x : Node). node_in x others) is ∙ pi_is target value origin others))
-    (added ∙ ap (λ (l : List ℕ). old ++ pi_line l name text origin) same_level ∙ ap (λ (t : List ℕ). old ++ pi_line indent t text origin) same_target ∙ ap (λ (v : List ℕ). old ++ pi_line indent target v origin) same)
+pi_prints indent level parent n target value name text address origin old new is same_origin same_level same_target same added =
+    line_prints indent parent n (pi_line indent target value address.origin) old new (λ others. ap (print_nodes indent parent) (ap (λ (x : Node). node_in x others) is ∙ pi_is target value address others))
+    (added ∙ ap (λ (l : List ℕ). old ++ pi_line l name text origin) same_level ∙ ap (λ (t : List ℕ). old ++ pi_line indent t text origin) same_target ∙ ap (λ (v : List ℕ). old ++ pi_line indent target v origin) same ∙ ap (λ (o : Origin). old ++ pi_line indent target value o) same_origin)
 
 -- ---- nodes in a row
 

@@ -218,18 +218,26 @@ fn put_node(
             attrs,
             context,
             kids,
-            origin,
+            address,
         } => {
+            let origin = address.origin();
             put_element(out, indent, parent, name, attrs.as_slice(), context, origin)?;
             put_kids(out, indent, context.base(), kids.as_slice())
         }
-        Node::Text { value, origin } => put_text_line(out, indent, value.as_str(), origin),
-        Node::Comment { value, origin } => put_comment_line(out, indent, value.as_str(), origin),
+        Node::Text { value, address } => {
+            put_text_line(out, indent, value.as_str(), address.origin())
+        }
+        Node::Comment { value, address } => {
+            put_comment_line(out, indent, value.as_str(), address.origin())
+        }
         Node::Pi {
             target,
             value,
-            origin,
-        } => put_pi_line(out, indent, target.as_str(), value.as_str(), origin),
+            address,
+        } => {
+            let origin = address.origin();
+            put_pi_line(out, indent, target.as_str(), value.as_str(), origin)
+        }
     }
 }
 

@@ -9,6 +9,7 @@
 --   nodes_of       the nodes of a content, where so many stand before it in the document
 use Rattle.std.specs.Prelude.{◌+◌, suc, ℕ, Bool, true, false, not, ◌&&◌, nat_lt, List, [], ◌∷◌, codes, bytes_eq, if◌then◌else◌, Option, None, Some, unwrap_or, Result, Ok, Err}
 use Rattle.std.specs.List.{list_any}
+use Rattle.xt_spec.specs.Reading.{document}
 use Rattle.xt_spec.specs.Namespace.{NamedValue, Binding, prefix_of, is_declaration, scope_of, Expanded, expanded_name}
 use Rattle.xt_spec.specs.Content.{Content, nothing_given, element_content, text_content, comment_content, pi_content}
 use Rattle.bk_name.specs.Uri.{joined, without_fragment}
@@ -81,7 +82,7 @@ pub record Element : Type 0 where
 
 abbrev pub element_in : List ℕ → List Binding → List ℕ → Expanded → List Attr → List ℕ → Element
 element_in file scope lang name attrs base = record {
-  head = record { space = name.space; local = name.local; attributes = attrs; base = base; lang = lang; origin = owned file };
+  head = record { space = name.space; local = name.local; attributes = attrs; base = base; lang = lang; origin = owned file document };
   context = record { scope = scope; base = base; lang = lang };
 }
 
@@ -112,8 +113,8 @@ nodes_of file context count (element_content name values kids rest) =
     (element_of file context name values)
 nodes_of file context count (text_content [] rest) = nodes_of file context count rest
 nodes_of file context count (text_content (b ∷ value) rest) =
-    with_room file count (and_then (λ (others : Nodes). Ok (text_node (b ∷ value) (owned file) others)) (nodes_of file context (suc count) rest))
+    with_room file count (and_then (λ (others : Nodes). Ok (text_node (b ∷ value) (owned file document) others)) (nodes_of file context (suc count) rest))
 nodes_of file context count (comment_content inner rest) =
-    with_room file count (and_then (λ (others : Nodes). Ok (comment_node inner (owned file) others)) (nodes_of file context (suc count) rest))
+    with_room file count (and_then (λ (others : Nodes). Ok (comment_node inner (owned file document) others)) (nodes_of file context (suc count) rest))
 nodes_of file context count (pi_content target inner rest) =
-    with_room file count (and_then (λ (others : Nodes). Ok (pi_node target inner (owned file) others)) (nodes_of file context (suc count) rest))
+    with_room file count (and_then (λ (others : Nodes). Ok (pi_node target inner (owned file document) others)) (nodes_of file context (suc count) rest))

@@ -3,3 +3,5 @@ pub mod Print
 pub mod Fault
 pub mod DocumentNodes
 pub mod Opening
+pub mod Infoset
+pub mod NodePaths

@@ -2,18 +2,19 @@
 -- 2.6 (characters) and 2.7 (comments), with the file that owns each. Texts are values: references are replaced, line ends
 -- are LF, attribute values are normalized.
 --
---   Origin  what a node came from: a file, or an internal entity referenced in a file
+--   Origin  what a node came from: a file in a role, or an internal entity referenced in a file
 --   How     how an attribute came
 --   Nodes   a list of nodes
 --   node_count     how many nodes there are, those that elements hold counted
 --   has_inclusion  an element of XInclude is among them
 use Rattle.std.specs.Prelude.{List, ℕ, ◌+◌, Bool, false, ◌||◌, bytes_eq, codes}
+use Rattle.xt_spec.specs.Reading.{Role}
 
--- a node of a file, by the file's name; or one of an entity's replacement text, by the file that holds the reference and
--- the entity's name
+-- a node of a file, by the file's name and the role in which it is read for the node; or one of an entity's replacement
+-- text, by the file that holds the reference and the entity's name
 pub data Origin : Type 0 where
-  owned : List ℕ → Origin
-  from_entity : List ℕ → List ℕ → Origin
+  owned : (file : List ℕ) → Role → Origin
+  from_entity : (file entity : List ℕ) → Origin
 
 -- an attribute is written in the start-tag, declared as a default, or made by a fixup of inclusion
 pub data How : Type 0 where

@@ -29,7 +29,7 @@ name_text space local =
     else codes "{" ++ space ++ codes "}" ++ local)
 
 abbrev pub owner_text : Origin → List ℕ
-owner_text (owned file) = file
+owner_text (owned file role) = file
 owner_text (from_entity file entity) = file ++ codes " by &" ++ entity ++ codes ";"
 
 abbrev pub how_text : How → List ℕ

@@ -3,6 +3,7 @@ use Rattle.std.proofs.Common.{◌≡◌, ℕ, suc, ◌+◌, ◌≤◌, List, [],
 use Rattle.std.proofs.lemmas.Bool.Decides.{nat_tests}
 use Rattle.xt_spec.specs.Namespace.{NamedValue}
 use Rattle.xt_spec.specs.Content.{Content, nothing_given, element_content, text_content, comment_content, pi_content}
+use Rattle.xt_spec.specs.Reading.{document}
 use Rattle.bk_spec.specs.Node.{owned, Nodes, element_node, text_node, comment_node, pi_node, node_count}
 use Rattle.bk_spec.specs.Fault.{Fault, too_large}
 use Rattle.bk_spec.specs.DocumentNodes.{Context, Element, and_then, with_room, element_of, nodes_of}
@@ -72,28 +73,28 @@ behind_made : (file : List ℕ) (context : Context) (count : ℕ) (rest : Conten
 behind_made file context count rest front nodes is = rw is.room (rw is.behind (ap (λ (ns : Nodes). Ok ns) (sym is.are)))
 
 pub text_gives : (file : List ℕ) (context : Context) (count b : ℕ) (value : List ℕ) (rest : Content) (nodes : Nodes) → nodes_of file context count (text_content (b ∷ value) rest) ≡ Ok nodes
-    → IsBehind file context count rest (text_node (b ∷ value) (owned file)) nodes
-text_gives file context count b value rest nodes is = behind_gives file context count rest (text_node (b ∷ value) (owned file)) nodes is
+    → IsBehind file context count rest (text_node (b ∷ value) (owned file document)) nodes
+text_gives file context count b value rest nodes is = behind_gives file context count rest (text_node (b ∷ value) (owned file document)) nodes is
 
-pub text_made : (file : List ℕ) (context : Context) (count b : ℕ) (value : List ℕ) (rest : Content) (nodes : Nodes) → IsBehind file context count rest (text_node (b ∷ value) (owned file)) nodes
+pub text_made : (file : List ℕ) (context : Context) (count b : ℕ) (value : List ℕ) (rest : Content) (nodes : Nodes) → IsBehind file context count rest (text_node (b ∷ value) (owned file document)) nodes
     → nodes_of file context count (text_content (b ∷ value) rest) ≡ Ok nodes
-text_made file context count b value rest nodes is = behind_made file context count rest (text_node (b ∷ value) (owned file)) nodes is
+text_made file context count b value rest nodes is = behind_made file context count rest (text_node (b ∷ value) (owned file document)) nodes is
 
 pub comment_gives : (file : List ℕ) (context : Context) (count : ℕ) (inner : List ℕ) (rest : Content) (nodes : Nodes) → nodes_of file context count (comment_content inner rest) ≡ Ok nodes
-    → IsBehind file context count rest (comment_node inner (owned file)) nodes
-comment_gives file context count inner rest nodes is = behind_gives file context count rest (comment_node inner (owned file)) nodes is
+    → IsBehind file context count rest (comment_node inner (owned file document)) nodes
+comment_gives file context count inner rest nodes is = behind_gives file context count rest (comment_node inner (owned file document)) nodes is
 
-pub comment_made : (file : List ℕ) (context : Context) (count : ℕ) (inner : List ℕ) (rest : Content) (nodes : Nodes) → IsBehind file context count rest (comment_node inner (owned file)) nodes
+pub comment_made : (file : List ℕ) (context : Context) (count : ℕ) (inner : List ℕ) (rest : Content) (nodes : Nodes) → IsBehind file context count rest (comment_node inner (owned file document)) nodes
     → nodes_of file context count (comment_content inner rest) ≡ Ok nodes
-comment_made file context count inner rest nodes is = behind_made file context count rest (comment_node inner (owned file)) nodes is
+comment_made file context count inner rest nodes is = behind_made file context count rest (comment_node inner (owned file document)) nodes is
 
 pub pi_gives : (file : List ℕ) (context : Context) (count : ℕ) (target inner : List ℕ) (rest : Content) (nodes : Nodes) → nodes_of file context count (pi_content target inner rest) ≡ Ok nodes
-    → IsBehind file context count rest (pi_node target inner (owned file)) nodes
-pi_gives file context count target inner rest nodes is = behind_gives file context count rest (pi_node target inner (owned file)) nodes is
+    → IsBehind file context count rest (pi_node target inner (owned file document)) nodes
+pi_gives file context count target inner rest nodes is = behind_gives file context count rest (pi_node target inner (owned file document)) nodes is
 
-pub pi_made : (file : List ℕ) (context : Context) (count : ℕ) (target inner : List ℕ) (rest : Content) (nodes : Nodes) → IsBehind file context count rest (pi_node target inner (owned file)) nodes
+pub pi_made : (file : List ℕ) (context : Context) (count : ℕ) (target inner : List ℕ) (rest : Content) (nodes : Nodes) → IsBehind file context count rest (pi_node target inner (owned file document)) nodes
     → nodes_of file context count (pi_content target inner rest) ≡ Ok nodes
-pi_made file context count target inner rest nodes is = behind_made file context count rest (pi_node target inner (owned file)) nodes is
+pi_made file context count target inner rest nodes is = behind_made file context count rest (pi_node target inner (owned file document)) nodes is
 
 -- ---- fewer nodes before
 

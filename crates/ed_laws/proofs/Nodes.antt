@@ -6,6 +6,7 @@ use Rattle.xt_spec.specs.Tree.{Items, nil, element, leaf, Item, element_item, le
 use Rattle.xt_spec.specs.LineEnds.{lines_read}
 use Rattle.xt_spec.specs.Text.{HasTextValue}
 use Rattle.xt_spec.specs.Content.{Content, element_content, text_content, comment_content, pi_content, HasContent}
+use Rattle.xt_spec.specs.Reading.{document}
 use Rattle.bk_spec.specs.Node.{Origin, owned, Nodes, no_nodes, element_node, text_node, comment_node, pi_node, node_count, has_inclusion}
 use Rattle.bk_spec.specs.DocumentNodes.{Context, nodes_of}
 use Rattle.bk_spec.specs.Opening.{GivesNodes}
@@ -33,10 +34,10 @@ as_they_are file context count f g content c nodes ns same are set =
 
 -- the items that stand for a value give a text of it, or nothing
 value_set : (file : List ℕ) (context : Context) (k count : ℕ) (value : List ℕ) (rest : Content) (front : Nodes → Nodes) (nodes : Nodes) → k ≤ count → (e : IsBehind file context count rest front nodes)
-    → nodes_of file context k (text_before value rest) ≡ Ok (text_or_none value (owned file) e.others)
+    → nodes_of file context k (text_before value rest) ≡ Ok (text_or_none value (owned file document) e.others)
 value_set file context k count [] rest front nodes less e = fewer_before file context k (suc count) rest e.others (omega (arith, less)) e.behind
 value_set file context k count (b ∷ value) rest front nodes less e =
-    text_made file context k b value rest (text_node (b ∷ value) (owned file) e.others) record {
+    text_made file context k b value rest (text_node (b ∷ value) (owned file document) e.others) record {
       others = e.others;
       room = fewer_room k count less e.room;
       behind = fewer_before file context (suc k) (suc count) rest e.others (omega (arith, less)) e.behind;
@@ -82,8 +83,8 @@ sets_in file context k count (leaf text_item other rest) content nodes number []
     let first : number ≡ 1 = first_node rest number (some_behind other value b rest number zero has_value at) in
     let e = text_gives file context count b value others nodes (sym (ap (nodes_of file context count) same) ∙ gives) in
     subst (λ (n : ℕ). IsSet file context k (content_edited_in (leaf text_item other rest) zero [] v content) (text_set_in nodes n [] v) nodes) (sym first)
-    (as_they_are file context k (content_edited_in (leaf text_item other rest) zero [] v) (λ (ns : Nodes). text_set_in ns 1 [] v) content (text_content (b ∷ value) others) nodes (text_node (b ∷ value) (owned file) e.others) same e.are
-    (value_set file context k count v others (text_node (b ∷ value) (owned file)) nodes less e, value_counts (b ∷ value) v (owned file) e.others))
+    (as_they_are file context k (content_edited_in (leaf text_item other rest) zero [] v) (λ (ns : Nodes). text_set_in ns 1 [] v) content (text_content (b ∷ value) others) nodes (text_node (b ∷ value) (owned file document) e.others) same e.are
+    (value_set file context k count v others (text_node (b ∷ value) (owned file document)) nodes less e, value_counts (b ∷ value) v (owned file document) e.others))
 sets_in file context k count (leaf text_item other rest) content nodes number place (suc index) path text v (b ∷ value, others, has_value, has, same) gives less at along is =
     let (n, further, there) = behind_node rest number index (some_behind other value b rest number (suc index) has_value at) in
     let e = text_gives file context count b value others nodes (sym (ap (nodes_of file context count) same) ∙ gives) in
@@ -91,8 +92,8 @@ sets_in file context k count (leaf text_item other rest) content nodes number pl
     let next = content_edited_in rest index path v others in
     let after = text_set_in e.others (suc n) place v in
     subst (λ (n : ℕ). IsSet file context k (content_edited_in (leaf text_item other rest) (suc index) path v content) (text_set_in nodes n place v) nodes) (sym further)
-    (as_they_are file context k (content_edited_in (leaf text_item other rest) (suc index) path v) (λ (ns : Nodes). text_set_in ns (suc (suc n)) place v) content (text_content (b ∷ value) others) nodes (text_node (b ∷ value) (owned file) e.others) same e.are
-    (text_made file context k b value next (text_node (b ∷ value) (owned file) after) (front_stays file context k count others next (text_node (b ∷ value) (owned file)) nodes after less e set.0), omega (arith, set.1)))
+    (as_they_are file context k (content_edited_in (leaf text_item other rest) (suc index) path v) (λ (ns : Nodes). text_set_in ns (suc (suc n)) place v) content (text_content (b ∷ value) others) nodes (text_node (b ∷ value) (owned file document) e.others) same e.are
+    (text_made file context k b value next (text_node (b ∷ value) (owned file document) after) (front_stays file context k count others next (text_node (b ∷ value) (owned file document)) nodes after less e set.0), omega (arith, set.1)))
 sets_in file context k count (leaf comment_item other rest) content nodes number place zero [] text v has gives less at along is = absurd (cc)
 sets_in file context k count (leaf comment_item other rest) content nodes number place zero (n ∷ path) text v has gives less at along is = absurd (cc)
 sets_in file context k count (leaf comment_item other rest) content nodes number place (suc index) path text v (inner, others, spells, has, same) gives less at along is =
@@ -101,7 +102,7 @@ sets_in file context k count (leaf comment_item other rest) content nodes number
     let set = sets_in file context (suc k) (suc count) rest others e.others (suc n) place index path text v has e.behind (omega (arith, less)) there along is in
     let next = content_edited_in rest index path v others in
     let after = text_set_in e.others (suc n) place v in
-    let front = comment_node (lines_read inner) (owned file) in
+    let front = comment_node (lines_read inner) (owned file document) in
     subst (λ (n : ℕ). IsSet file context k (content_edited_in (leaf comment_item other rest) (suc index) path v content) (text_set_in nodes n place v) nodes) (sym further)
     (as_they_are file context k (content_edited_in (leaf comment_item other rest) (suc index) path v) (λ (ns : Nodes). text_set_in ns (suc (suc n)) place v) content (comment_content (lines_read inner) others) nodes (front e.others) same e.are
     (comment_made file context k (lines_read inner) next (front after) (front_stays file context k count others next front nodes after less e set.0), omega (arith, set.1)))
@@ -113,7 +114,7 @@ sets_in file context k count (leaf pi_item other rest) content nodes number plac
     let set = sets_in file context (suc k) (suc count) rest others e.others (suc n) place index path text v has e.behind (omega (arith, less)) there along is in
     let next = content_edited_in rest index path v others in
     let after = text_set_in e.others (suc n) place v in
-    let front = pi_node target (lines_read inner) (owned file) in
+    let front = pi_node target (lines_read inner) (owned file document) in
     subst (λ (n : ℕ). IsSet file context k (content_edited_in (leaf pi_item other rest) (suc index) path v content) (text_set_in nodes n place v) nodes) (sym further)
     (as_they_are file context k (content_edited_in (leaf pi_item other rest) (suc index) path v) (λ (ns : Nodes). text_set_in ns (suc (suc n)) place v) content (pi_content target (lines_read inner) others) nodes (front e.others) same e.are
     (pi_made file context k target (lines_read inner) next (front after) (front_stays file context k count others next front nodes after less e set.0), omega (arith, set.1)))

@@ -2,7 +2,8 @@
 use Rattle.std.proofs.Common.{◌≡◌, ◌∙◌, ℕ, zero, suc, ◌-◌, List, [], ◌∷◌, refl, sym, ap, arith, Option, Some, None, option_map, Bool, true, false, if◌then◌else◌}
 use Rattle.xt_spec.specs.Tree.{Items, nil, element, leaf, Item, element_item, leaf_item}
 use Rattle.xt_spec.specs.Paths.{item_in, item_at}
-use Rattle.ed_spec.specs.Place.{gives_node, child_index, index_of, content_of, step_along, path_along, path_of}
+use Rattle.bk_spec.specs.NodePaths.{gives_node}
+use Rattle.ed_spec.specs.Place.{child_index, index_of, content_of, step_along, path_along, path_of}
 
 -- ---- indices and paths, found or not
 

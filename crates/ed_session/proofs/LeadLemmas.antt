@@ -2,7 +2,8 @@
 use Rattle.std.proofs.Common.{◌≡◌, ◌∙◌, ℕ, zero, suc, ◌-◌, List, [], ◌∷◌, refl, sym, subst, Bool, true, false, Option, Some, None, option_map, if◌then◌else◌}
 use Rattle.xt_spec.specs.Tree.{Item, element_item, leaf_item, Items, nil, element, leaf}
 use Rattle.xt_spec.specs.Paths.{item_in, item_at}
-use Rattle.ed_spec.specs.Place.{gives_node, child_index, index_of, content_of, step_along, path_along, path_of}
+use Rattle.bk_spec.specs.NodePaths.{gives_node}
+use Rattle.ed_spec.specs.Place.{child_index, index_of, content_of, step_along, path_along, path_of}
 use Rattle.ed_session.specs.declared.refusal.Refusal.{Refusal}
 use Rattle.ed_session.specs.declared.refusal.Refusal.TheVariants.{NoSuchPlace, WrongKind, BadRange, BadText, TooLarge}
 use Rattle.ed_session.specs.declared.refusal.EditFault.TheVariants.{Refused}

@@ -8,11 +8,11 @@
 --   IsNarrow         .. and among the items themselves
 use Rattle.std.specs.Prelude.{ℕ, ◌≤◌, suc, Bool, true}
 use Rattle.xt_spec.specs.Tree.{Item, element_item, leaf_item, Items, nil, element, leaf}
-use Rattle.ed_spec.specs.Place as place
+use Rattle.bk_spec.specs.NodePaths.{gives_node}
 
 abbrev pub gives_node_item : Item → Bool
 gives_node_item (element_item open_tag kids close) = true
-gives_node_item (leaf_item kind text) = place.gives_node kind text
+gives_node_item (leaf_item kind text) = gives_node kind text
 
 abbrev pub content : Item → Items
 content (element_item open_tag kids close) = kids

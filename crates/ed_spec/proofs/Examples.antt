@@ -1,5 +1,6 @@
 -- Places and an edited tree, computed.
 use Rattle.std.proofs.Common.{◌≡◌, List, ℕ, refl, [], ◌∷◌, codes, true, false, Some, None}
+use Rattle.xt_spec.specs.Reading.{document}
 use Rattle.xt_spec.specs.Tree.{Items, nil, element, leaf, text_item, gap, source_text}
 use Rattle.bk_spec.specs.Node.{Nodes, no_nodes, element_node, text_node, owned}
 use Rattle.ed_spec.specs.TextEdit.{text_edited}
@@ -44,9 +45,9 @@ unfolding spaced
 finds_no_place_of_number_zero = refl
 
 nodes : List ℕ → Nodes → Nodes
-nodes name kids = element_node (record { space = []; local = name; attributes = []; base = []; lang = []; origin = owned [] }) kids no_nodes
+nodes name kids = element_node (record { space = []; local = name; attributes = []; base = []; lang = []; origin = owned [] document }) kids no_nodes
 
-sets_a_text : text_set (nodes (codes "a") (text_node (codes "x") (owned []) no_nodes)) (1 ∷ 1 ∷ []) (codes "y") ≡ nodes (codes "a") (text_node (codes "y") (owned []) no_nodes)
+sets_a_text : text_set (nodes (codes "a") (text_node (codes "x") (owned [] document) no_nodes)) (1 ∷ 1 ∷ []) (codes "y") ≡ nodes (codes "a") (text_node (codes "y") (owned [] document) no_nodes)
 unfolding nodes
 sets_a_text = refl
 
@@ -54,7 +55,7 @@ sets_no_element : text_set (nodes (codes "a") no_nodes) (1 ∷ []) (codes "y") �
 unfolding nodes
 sets_no_element = refl
 
-takes_an_empty_text_away : text_set (nodes (codes "a") (text_node (codes "x") (owned []) no_nodes)) (1 ∷ 1 ∷ []) [] ≡ nodes (codes "a") no_nodes
+takes_an_empty_text_away : text_set (nodes (codes "a") (text_node (codes "x") (owned [] document) no_nodes)) (1 ∷ 1 ∷ []) [] ≡ nodes (codes "a") no_nodes
 unfolding nodes
 takes_an_empty_text_away = refl
 

@@ -5,19 +5,11 @@
 --
 --   path_of   the path of the item that gives the node at a place, where there is one
 --   text_set  the nodes with another value in the place of the text that a place names
-use Rattle.std.specs.Prelude.{ℕ, zero, suc, ◌-◌, List, [], ◌∷◌, Bool, true, false, not, if◌then◌else◌, Option, None, Some}
+use Rattle.std.specs.Prelude.{ℕ, zero, suc, ◌-◌, List, [], ◌∷◌, if◌then◌else◌, Option, None, Some}
 use Rattle.std.specs.Option.{option_map}
-use Rattle.xt_spec.specs.Text.{is_void}
-use Rattle.xt_spec.specs.Tree.{LeafKind, Items, nil, element, leaf, text_item, reference_item, comment_item, pi_item, gap}
+use Rattle.xt_spec.specs.Tree.{Items, nil, element, leaf}
+use Rattle.bk_spec.specs.NodePaths.{gives_node}
 use Rattle.bk_spec.specs.Node.{Origin, Nodes, no_nodes, element_node, text_node, comment_node, pi_node}
-
--- whether a leaf gives a node of its own; a text with an empty value gives none
-abbrev pub gives_node : LeafKind → List ℕ → Bool
-gives_node text_item text = not (is_void text)
-gives_node comment_item text = true
-gives_node pi_item text = true
-gives_node reference_item text = false
-gives_node gap text = false
 
 -- the index of the child of this number, from that of the next number among the items behind the first child
 abbrev pub child_index : ℕ → Option ℕ → Option ℕ

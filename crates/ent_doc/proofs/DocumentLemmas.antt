@@ -14,22 +14,21 @@ use Rattle.ent_doc.specs.Faults.{IsNodesFault}
 use Rattle.ent_doc.specs.Steps.{Gives, GivesFault}
 use Rattle.ent_doc.proofs.ElementLemmas.{gives_all}
 
--- what is so of a file, a text, a context and a count is so of those that are the same
-moved : (P : List ℕ → List ℕ → Context → ℕ → Type 0) (f file t text : List ℕ) (context : Context) (n : ℕ) → f ≡ file → t ≡ text → context ≡ top_context file → n ≡ 0 → P f t context n → P file text (top_context file) 0
-moved P f file t text context n same_file same_text top none so =
-    subst (λ (k : ℕ). P file text (top_context file) k) none (subst (λ (x : Context). P file text x n) top (subst (λ (b : List ℕ). P file b context n) same_text (subst (λ (b : List ℕ). P b t context n) same_file so)))
+-- what is so of a context and a count is so of those that are the same
+moved : (P : Context → ℕ → Type 0) (file : List ℕ) (context : Context) (n : ℕ) → context ≡ top_context file → n ≡ 0 → P context n → P (top_context file) 0
+moved P file context n top none so = subst (λ (k : ℕ). P (top_context file) k) none (subst (λ (x : Context). P x n) top so)
 
-pub document_gives : (f file t text : List ℕ) (items : List Src) (context : Context) (n m : ℕ) (nodes : List Node) → f ≡ file → t ≡ text → context ≡ top_context file → n ≡ 0 → Gives f context (items_in t items) nil n m nodes
+pub document_gives : (file text : List ℕ) (items : List Src) (context : Context) (n m : ℕ) (nodes : List Node) → context ≡ top_context file → n ≡ 0 → Gives file context (items_in text items) nil n m nodes
     → (content : Content) → HasContent (items_in text items) content → nodes_of file (top_context file) 0 content ≡ Ok (nodes_in nodes)
-document_gives f file t text items context n m nodes same_file same_text top none gives =
+document_gives file text items context n m nodes top none gives =
     gives_all file (top_context file) (items_in text items) 0 m nodes
-    (moved (λ (a b : List ℕ) (x : Context) (k : ℕ). Gives a x (items_in b items) nil k m nodes) f file t text context n same_file same_text top none gives)
+    (moved (λ (x : Context) (k : ℕ). Gives file x (items_in text items) nil k m nodes) file context n top none gives)
 
 is_fault : (file : List ℕ) (items : Items) (fault : OpenFault) → GivesFault file (top_context file) items 0 fault → IsNodesFault file items fault
 is_fault file items (Book fault) gives = gives
 is_fault file items NoMemory gives = tt
 
-pub document_fails : (f file t text : List ℕ) (items : List Src) (context : Context) (n : ℕ) (fault : OpenFault) → f ≡ file → t ≡ text → context ≡ top_context file → n ≡ 0 → GivesFault f context (items_in t items) n fault
+pub document_fails : (file text : List ℕ) (items : List Src) (context : Context) (n : ℕ) (fault : OpenFault) → context ≡ top_context file → n ≡ 0 → GivesFault file context (items_in text items) n fault
     → IsNodesFault file (items_in text items) fault
-document_fails f file t text items context n fault same_file same_text top none gives =
-    is_fault file (items_in text items) fault (moved (λ (a b : List ℕ) (x : Context) (k : ℕ). GivesFault a x (items_in b items) k fault) f file t text context n same_file same_text top none gives)
+document_fails file text items context n fault top none gives =
+    is_fault file (items_in text items) fault (moved (λ (x : Context) (k : ℕ). GivesFault file x (items_in text items) k fault) file context n top none gives)

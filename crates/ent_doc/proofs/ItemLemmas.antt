@@ -91,7 +91,7 @@ pub of_pi : (bytes : List ℕ) (P : Items → Type 0) (rest : Items) (item : Src
 of_pi bytes P rest item span is so = subst (λ (x : Item). P (before x rest)) (sym (ap (item_of bytes) is ∙ pi_is bytes span)) so
 
 -- the first of the items that are left
-next_items : (items : List Src) (i : ℕ) (x : Src) → i < length items → x ≡ get_or items i x → drop i items ≡ x ∷ drop (i + 1) items
+pub next_items : (items : List Src) (i : ℕ) (x : Src) → i < length items → x ≡ get_or items i x → drop i items ≡ x ∷ drop (i + 1) items
 next_items items i x below is = drop-cons items i x below ∙ (let more : suc i ≡ i + 1 = omega arith in rw more (ap (λ (y : Src). y ∷ drop (i + 1) items) (sym is)))
 
 pub next_in_place : (bytes : List ℕ) (items : List Src) (i : ℕ) (x : Src) → i < length items → x ≡ get_or items i x → AreTagsInPlace bytes (marks_of (drop i items)) → AreTagsInPlace bytes (marks_in x) × AreTagsInPlace bytes (marks_of (drop (i + 1) items))
@@ -123,7 +123,7 @@ items_begin bytes file context items n nodes none content has =
     none_first (Ok rest) = refl
     none_first (Err fault) = refl
 
-none_left : {A : Type 0} (xs : List A) (i : ℕ) → length xs ≤ i → drop i xs ≡ []
+pub none_left : {A : Type 0} (xs : List A) (i : ℕ) → length xs ≤ i → drop i xs ≡ []
 none_left xs i past = grind (arith, common_steps)
 
 pub items_end : (bytes file : List ℕ) (context : Context) (items : List Src) (i n m : ℕ) (nodes list : List Node) → length items ≤ i → list ≡ nodes → Gives file context (items_in bytes items) (items_in bytes (drop i items)) n m nodes

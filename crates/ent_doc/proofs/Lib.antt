@@ -4,6 +4,7 @@ mod LeafLemmas
 mod PlaceLemmas
 mod ElementLemmas
 mod ItemLemmas
+mod PathLemmas
 mod TagLemmas
 mod DocumentLemmas
 mod AroundLemmas

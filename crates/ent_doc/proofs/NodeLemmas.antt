@@ -11,10 +11,10 @@ use Rattle.ent_doc.specs.Steps.{prepended}
 
 -- how many nodes there are in front of others
 step_count : (layer : Node-F (Nodes → Nodes)) (others : Nodes) → node_count (node_step layer others) ≡ node_count (node_step layer no_nodes) + node_count others
-step_count (Elem name attrs context kids origin) others = omega arith
-step_count (Text value origin) others = omega arith
-step_count (Comment value origin) others = omega arith
-step_count (Pi target value origin) others = omega arith
+step_count (Elem name attrs context kids address) others = omega arith
+step_count (Text value address) others = omega arith
+step_count (Comment value address) others = omega arith
+step_count (Pi target value address) others = omega arith
 
 node_counts : (node : Node) (others : Nodes) → node_count (node_in node others) ≡ node_count (node_in node no_nodes) + node_count others
 node_counts node others =

@@ -4,15 +4,18 @@
 --   prepended        nodes, and those behind them, where there was no fault
 --   Gives            the items up to a rest give these nodes
 --   GivesFault       the items have this fault
+--   HavePaths        the items give nodes with their paths
+--   HasPaths         .. up to a rest
 --   IsAttrOf         the attribute of a name and a value
 --   attr_value       the value of the attribute of a name
 --   are_apart        no two attributes have one expanded name
 --   attribute_at     an attribute's name and value, at their spans
 --   AreTagsInPlace   each tag stands somewhere, with its parts at their spans
-use Rattle.std.specs.Prelude.{◌≡◌, ℕ, Bool, true, not, ◌&&◌, List, [], ◌∷◌, Option, None, Some, Result, Ok, Err, bytes_eq, if◌then◌else◌}
+use Rattle.std.specs.Prelude.{◌≡◌, ℕ, Bool, true, not, ◌&&◌, List, [], ◌∷◌, ◌++◌, Option, None, Some, Result, Ok, Err, bytes_eq, if◌then◌else◌}
 use Rattle.std.specs.Borrow.{Bor}
 use Rattle.std.specs.List.{list_any}
 use Rattle.xt_spec.specs.Tree.{Items}
+use Rattle.xt_spec.specs.Reading.{document}
 use Rattle.xt_spec.specs.Namespace.{NamedValue, Binding, Expanded}
 use Rattle.xt_spec.specs.Content.{Content, HasContent}
 use Rattle.xt_spec.specs.Tag.{Attribute}
@@ -22,9 +25,11 @@ use Rattle.xt_tree.specs.Places.{Mark, tag_mark, span_mark, IsTagAt}
 use Rattle.bk_spec.specs.Node.{Nodes, owned}
 use Rattle.bk_spec.specs.Fault.{Fault}
 use Rattle.bk_spec.specs.DocumentNodes.{Context, Element, and_then, named, attr_of, has_name, nodes_of}
+use Rattle.bk_spec.specs.NodePaths.{node_paths}
 use Rattle.bk_info.specs.declared.attr.Attr.{Attr}
 use Rattle.bk_info.specs.declared.node.Node.{Node}
 use Rattle.bk_info.specs.Nodes.{attr_in, head_in, nodes_before, fault_in}
+use Rattle.bk_info.specs.Paths.{paths_in}
 use Rattle.ent_doc.specs.declared.fault.OpenFault.{OpenFault}
 use Rattle.ent_doc.specs.declared.fault.OpenFault.TheVariants.{Book, NoMemory}
 use Rattle.ent_doc.specs.declared.element.Own.{Own}
@@ -47,6 +52,14 @@ Gives file context items rest before behind nodes = (content : Content) → HasC
 abbrev pub GivesFault : List ℕ → Context → Items → ℕ → OpenFault → Type 0
 GivesFault file context items before fault = (content : Content) → HasContent items content → Fails (nodes_of file context before content) fault
 
+-- the items within the element at a path give nodes with their paths
+abbrev pub HavePaths : List ℕ → Items → List Node → Type 0
+HavePaths outer items nodes = (content : Content) → HasContent items content → paths_in nodes ≡ node_paths outer 0 items
+
+-- .. up to a rest, where the items begin at an index, and the rest at another
+abbrev pub HasPaths : List ℕ → ℕ → Items → Items → ℕ → List Node → Type 0
+HasPaths outer index items rest behind nodes = (content : Content) → HasContent items content → node_paths outer index items ≡ paths_in nodes ++ node_paths outer behind rest
+
 -- the node, where there is one
 abbrev pub some_node : Option Node → List Node
 some_node None = []
@@ -54,7 +67,7 @@ some_node (Some node) = node ∷ []
 
 -- an element's own and the context of what it holds, of what the code keeps
 abbrev pub element_in : List ℕ → Own → Element
-element_in file own = record { head = head_in own.name own.attrs own.context (owned file); context = own.context }
+element_in file own = record { head = head_in own.name own.attrs own.context (owned file document); context = own.context }
 
 -- the attribute of this name and value, as written in the file
 abbrev pub IsAttrOf : List ℕ → List Binding → NamedValue → Attr → Type 0

@@ -23,6 +23,8 @@ impl Names {
     pub(crate) fn text(&mut self, alloc: Global, text: &str) -> Result<SharedText, AllocError>
         ensures value { IfOk result (λ shared. shared ≡ text.now) }
     {
+        // A key and its text are equal: the test stands for an invariant over all entries, which would have to be kept
+        // through `insert`. It costs one comparison of a name.
         if let Some(shared) = self.texts.get(text) {
             if shared.as_str() == text {
                 return shared.share();

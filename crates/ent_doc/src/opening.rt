@@ -1,11 +1,13 @@
 //! A document that is opened: it is read, and its nodes are made.
-ghost use Rattle.std.specs.Prelude.{◌≡◌, ◌≤◌, ◌+◌, Some, IfOk, IfErr, length};
+ghost use Rattle.std.specs.Prelude.{◌≡◌, ◌≤◌, ◌+◌, [], Some, IfOk, IfErr, length};
 ghost use Rattle.std.specs.Str.{IsUtf8};
 ghost use Rattle.xt_spec.specs.Reading.{document, IsReading};
 ghost use Rattle.bk_spec.specs.Opening.{IsOpen, IsUnopened};
 ghost use Rattle.xt_tree.specs.Meaning.{items_in};
 ghost use Rattle.xt_tree.specs.Places.{marks_of, AreInPlace};
+ghost use Rattle.bk_spec.specs.NodePaths.{node_paths};
 ghost use Rattle.bk_info.specs.Nodes.{nodes_in};
+ghost use Rattle.bk_info.specs.Paths.{paths_in};
 ghost use Rattle.ent_doc.specs.Opening.{IsReadingFault, IsItemsFault, IsOpenFault};
 
 use crate::document::document_nodes;
@@ -71,20 +73,17 @@ fn opened_nodes(
     requires reading { IsReading document text.now (items_in text.now items.now) }
     requires place { AreInPlace text.now 0 (marks_of items.now) (length text.now) }
     ensures value { IfOk result (λ nodes. IsOpen file.now text.now (items_in text.now items.now) (nodes_in nodes)) }
+    ensures paths { IfOk result (λ nodes. paths_in nodes ≡ node_paths [] 0 (items_in text.now items.now)) }
     ensures fault { IfErr result (IsItemsFault file.now (items_in text.now items.now)) }
 {
     if !has_content(text, items) {
         return Err(not_yet(file)?);
     }
-    match document_nodes(alloc, file, text, items) {
-        Ok(nodes) => {
-            if has_inclusion(nodes.as_slice()) {
-                return Err(not_yet(file)?);
-            }
-            Ok(nodes)
-        }
-        Err(fault) => Err(fault),
+    let nodes = document_nodes(alloc, file, text, items)?;
+    if has_inclusion(nodes.as_slice()) {
+        return Err(not_yet(file)?);
     }
+    Ok(nodes)
 }
 
 /// Opens the document of these bytes, or answers its first fault. A step is counted for each byte.
@@ -97,14 +96,15 @@ pub fn open_document<L: Ledger>(
     requires fits { length bytes.now ≤ 4194304 }
     ensures value { IfOk result (λ opened. IsOpen file.now bytes.now (items_in bytes.now opened.items) (nodes_in opened.nodes)) }
     ensures place { IfOk result (λ opened. AreInPlace bytes.now 0 (marks_of opened.items) (length bytes.now)) }
+    ensures paths { IfOk result (λ opened. paths_in opened.nodes ≡ node_paths [] 0 (items_in bytes.now opened.items)) }
     ensures fault { IfErr result (IsOpenFault file.now bytes.now) }
     ensures count { steps.new ≡ steps.old + length bytes.now }
 {
     match read_document(alloc, bytes, steps) {
-        Ok(items) => match opened_nodes(alloc, file, as_text(bytes), items.as_slice()) {
-            Ok(nodes) => Ok(Opened { items, nodes }),
-            Err(fault) => Err(fault),
-        },
+        Ok(items) => {
+            let nodes = opened_nodes(alloc, file, as_text(bytes), items.as_slice())?;
+            Ok(Opened { items, nodes })
+        }
         Err(unread) => Err(OpenFault::Book(fault_of(file, unread)?)),
     }
 }

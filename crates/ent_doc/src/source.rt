@@ -2,39 +2,23 @@
 ghost use Rattle.std.specs.Prelude.{◌≡◌, IfOk, [], unwrap_or};
 ghost use Rattle.xt_spec.specs.Namespace.{prefix_of};
 ghost use Rattle.xt_tree.specs.Meaning.{at_span};
-ghost use Rattle.bk_spec.specs.Node.{owned};
 ghost use Rattle.bk_spec.specs.Fault as spec;
 ghost use Rattle.bk_info.specs.Nodes.{fault_in};
 
-use bk_info::{BookFault, Origin};
+use bk_info::BookFault;
 use bk_name::Name;
 use std::alloc::{AllocError, Global};
 use xt_lex::Span;
 use xt_table::Txt;
 
-/// A document: its file, its text, and the origin of its nodes.
+/// A document: its file and its text.
 #[derive(Drop)]
 pub(crate) struct Source<'a> {
     pub(crate) file: &'a Name,
     pub(crate) text: &'a str,
-    pub(crate) origin: Origin,
-    ghost owned: { origin ≡ owned file.now },
 }
 
 impl<'a> Source<'a> {
-    /// The document of this file and text. The one error is want of memory.
-    pub(crate) fn new(
-        alloc: Global,
-        file: &'a Name,
-        text: &'a str,
-    ) -> Result<Source<'a>, AllocError>
-        ensures file { IfOk result (λ source. source.file.now ≡ file.now) }
-        ensures text { IfOk result (λ source. source.text.now ≡ text.now) }
-    {
-        let origin = Origin::file(alloc, file.share()?)?;
-        Ok(Source { file, text, origin })
-    }
-
     /// The text at a span; none where the span isn't one of characters.
     pub(crate) fn text_at(&self, span: Span) -> Result<&'a str, AllocError>
         ensures value { IfOk result (λ piece. piece.now ≡ at_span self.now.text.now span) }

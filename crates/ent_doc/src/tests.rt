@@ -6,7 +6,7 @@
 ghost use Rattle.std.specs.Prelude.{◌≡◌};
 
 use crate::{OpenFault, open_document};
-use bk_info::{Attr, BookFault, Context, Node};
+use bk_info::{Address, Attr, BookFault, Context, Node};
 use bk_name::Name;
 use std::alloc::Global;
 use std::marker::Brand;
@@ -170,6 +170,81 @@ fn documents_give_these_nodes(rt: HostRuntime) -> Result<(), Fail> {
         ),
     ] {
         let found = told(alloc, text)?;
+        assert_eq!(rt; found.as_str(), nodes, "at {text}");
+    }
+    Ok(())
+}
+
+/// Tells the path of each node, and those of what an element holds behind it in brackets.
+#[cycle(paths)]
+fn add_paths(alloc: Global, out: &mut String, nodes: &[Node]) -> Result<(), Fail> {
+    for node in nodes {
+        match node {
+            Node::Elem { kids, address, .. } => {
+                add_path(alloc, out, address)?;
+                out.push_str("(")?;
+                add_paths(alloc, out, kids.as_slice())?;
+                out.push_str(")")?;
+            }
+            Node::Text { address, .. } => add_path(alloc, out, address)?,
+            Node::Comment { address, .. } => add_path(alloc, out, address)?,
+            Node::Pi { address, .. } => add_path(alloc, out, address)?,
+        }
+    }
+    Ok(())
+}
+
+fn add_path(alloc: Global, out: &mut String, address: &Address) -> Result<(), Fail> {
+    for index in address.path(alloc)? {
+        out.push_str("/")?;
+        out.push(if index < 9 {
+            (b'0' + index as u8) as char
+        } else {
+            '9'
+        })?;
+    }
+    Ok(())
+}
+
+fn paths_over<L: Ledger>(alloc: Global, bytes: &[u8], blank: Blank) -> Result<String, Fail>
+    requires name { blank.name ≡ L.name }
+    requires parts { blank.parts ≡ L.parts }
+    requires some { L.parts ≡ 1 }
+{
+    let mut steps = Steps::<L>::new(blank);
+    let mut out = String::new(alloc);
+    let Ok(file) = Name::read(alloc, b"b.xml") else {
+        return Ok(out);
+    };
+    if bytes.len() > MOST_BYTES {
+        return Ok(out);
+    }
+    if let Ok(opened) = open_document(alloc, &file, bytes, &mut steps) {
+        add_paths(alloc, &mut out, opened.nodes.as_slice())?;
+    }
+    Ok(out)
+}
+
+fn paths(alloc: Global, text: &str) -> Result<String, Fail> {
+    let blank = Blank::new(1);
+    paths_over::<Brand>(alloc, text.as_bytes(), blank)
+}
+
+#[test]
+fn nodes_have_the_paths_of_their_items(rt: HostRuntime) -> Result<(), Fail> {
+    let alloc = rt.alloc();
+    for (text, nodes) in [
+        ("<a/>", "/0()"),
+        (
+            "<?xml version='1.0'?> <!--c--><a>x<b/>y</a>",
+            "/2/3(/3/0/3/1()/3/2)",
+        ),
+        (
+            "<a><![CDATA[]]><b><c/>x</b><!--y--></a>",
+            "/0(/0/1(/0/1/0()/0/1/1)/0/2)",
+        ),
+    ] {
+        let found = paths(alloc, text)?;
         assert_eq!(rt; found.as_str(), nodes, "at {text}");
     }
     Ok(())

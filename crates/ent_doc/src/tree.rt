@@ -1,11 +1,13 @@
 //! The nodes of items, level by level.
-ghost use Rattle.std.specs.Prelude.{◌≡◌, ◌+◌, ◌++◌, ◌∷◌, [], List, ℕ, Option, IfOk, IfErr, OnOk};
+ghost use Rattle.std.specs.Prelude.{◌≡◌, ◌+◌, ◌++◌, ◌∷◌, [], suc, List, ℕ, Option, IfOk, IfErr, OnOk};
 ghost use Rattle.xt_spec.specs.Tree.{Items as TreeItems, nil, element, before};
 ghost use Rattle.xt_tree.specs.Meaning.{at_span, item_of, items_in};
 ghost use Rattle.xt_tree.specs.Places.{tag_mark, marks_in, marks_of};
-ghost use Rattle.bk_spec.specs.Node.{node_count};
+ghost use Rattle.xt_spec.specs.Reading.{document};
+ghost use Rattle.bk_spec.specs.Node.{owned, node_count};
+ghost use Rattle.bk_spec.specs.NodePaths.{path_below};
 ghost use Rattle.bk_info.specs.Nodes.{nodes_in};
-ghost use Rattle.ent_doc.specs.Steps.{Gives, GivesFault, AreTagsInPlace, some_node};
+ghost use Rattle.ent_doc.specs.Steps.{Gives, GivesFault, HavePaths, HasPaths, AreTagsInPlace, some_node};
 
 use crate::element::own_of;
 use crate::fault::OpenFault;
@@ -13,7 +15,7 @@ use crate::leaf::{comment_node, pi_node, text_node};
 use crate::source::Source;
 use crate::tag::values_of;
 use crate::work::Work;
-use bk_info::{Context, Node};
+use bk_info::{Address, Context, Node, Siblings};
 use sqlite_items::Items;
 use std::alloc::{AllocError, Global};
 use xt_tree::{Src, Tag};
@@ -37,24 +39,27 @@ fn element_node(
     context: &Context,
     tag: &Tag,
     kids: &[Src],
+    address: Address,
 ) -> Result<Node, OpenFault>
     requires tag { AreTagsInPlace source.now.text.now (tag_mark tag.now ∷ []) }
     requires kids { AreTagsInPlace source.now.text.now (marks_of kids.now) }
+    requires owned { address.origin ≡ owned source.now.file.now document }
     ensures value { IfOk result (λ node. (close : Option (List ℕ)) (rest : TreeItems) → Gives source.now.file.now context.now (element (at_span source.now.text.now tag.now.span) (items_in source.now.text.now kids.now) close rest) rest work.old.count work.new.count (node ∷ [])) }
     ensures count { IfOk result (λ node. work.new.count ≡ work.old.count + node_count (nodes_in (node ∷ []))) }
+    ensures paths { IfOk result (λ node. (close : Option (List ℕ)) (rest : TreeItems) (outer : List ℕ) (index : ℕ) → address.path ≡ path_below outer index → HasPaths outer index (element (at_span source.now.text.now tag.now.span) (items_in source.now.text.now kids.now) close rest) rest (suc index) (node ∷ [])) }
     ensures fault { IfErr result (λ fault. (close : Option (List ℕ)) (rest : TreeItems) → GivesFault source.now.file.now context.now (element (at_span source.now.text.now tag.now.span) (items_in source.now.text.now kids.now) close rest) work.old.count fault) }
 {
     let qname = source.text_at(tag.name)?;
     let values = values_of(alloc, source, tag.attrs.as_slice())?;
     let own = own_of(alloc, source, &mut work.names, context, qname, values)?;
     work.count_one(source)?;
-    let kids = nodes_of(alloc, source, work, &own.context, kids)?;
+    let kids = kids_of(alloc, source, work, &own.context, &address, kids)?;
     Ok(Node::Elem {
         name: own.name,
         attrs: own.attrs,
         context: own.context,
         kids,
-        origin: source.origin.share()?,
+        address,
     })
 }
 
@@ -66,10 +71,13 @@ fn node_of(
     work: &mut Work,
     context: &Context,
     item: &Src,
+    address: Address,
 ) -> Result<Option<Node>, OpenFault>
     requires tags { AreTagsInPlace source.now.text.now (marks_in item.now) }
+    requires owned { address.origin ≡ owned source.now.file.now document }
     ensures value { IfOk result (λ node. (rest : TreeItems) → Gives source.now.file.now context.now (before (item_of source.now.text.now item.now) rest) rest work.old.count work.new.count (some_node node)) }
     ensures count { IfOk result (λ node. work.new.count ≡ work.old.count + node_count (nodes_in (some_node node))) }
+    ensures paths { IfOk result (λ node. (rest : TreeItems) (outer : List ℕ) (index : ℕ) → address.path ≡ path_below outer index → HasPaths outer index (before (item_of source.now.text.now item.now) rest) rest (suc index) (some_node node)) }
     ensures fault { IfErr result (λ fault. (rest : TreeItems) → GivesFault source.now.file.now context.now (before (item_of source.now.text.now item.now) rest) work.old.count fault) }
 {
     match item {
@@ -80,12 +88,37 @@ fn node_of(
             context,
             head,
             kids.as_slice(),
+            address,
         )?)),
-        Src::Text(span) => text_node(alloc, source, work, *span),
-        Src::Comment(span) => Ok(Some(comment_node(alloc, source, work, *span)?)),
-        Src::Pi(span) => Ok(Some(pi_node(alloc, source, work, *span)?)),
+        Src::Text(span) => text_node(alloc, source, work, *span, address),
+        Src::Comment(span) => Ok(Some(comment_node(alloc, source, work, *span, address)?)),
+        Src::Pi(span) => Ok(Some(pi_node(alloc, source, work, *span, address)?)),
         Src::Ref(_) | Src::Gap(_) => Ok(None),
     }
+}
+
+/// The nodes of what an element holds. An element that holds nothing shares nothing.
+#[cycle(tree)]
+fn kids_of(
+    alloc: Global,
+    source: &Source<'_>,
+    work: &mut Work,
+    context: &Context,
+    address: &Address,
+    items: &[Src],
+) -> Result<Items<Node>, OpenFault>
+    requires tags { AreTagsInPlace source.now.text.now (marks_of items.now) }
+    requires owned { address.now.origin ≡ owned source.now.file.now document }
+    ensures value { IfOk result (λ nodes. Gives source.now.file.now context.now (items_in source.now.text.now items.now) nil work.old.count work.new.count nodes) }
+    ensures count { IfOk result (λ nodes. work.new.count ≡ work.old.count + node_count (nodes_in nodes)) }
+    ensures paths { IfOk result (HavePaths address.now.path (items_in source.now.text.now items.now)) }
+    ensures fault { IfErr result (GivesFault source.now.file.now context.now (items_in source.now.text.now items.now) work.old.count) }
+{
+    if items.is_empty() {
+        return Ok(Items::new(alloc));
+    }
+    let siblings = Siblings::within(alloc, address)?;
+    nodes_of(alloc, source, work, context, &siblings, items)
 }
 
 /// The nodes of items.
@@ -95,16 +128,23 @@ pub(crate) fn nodes_of(
     source: &Source<'_>,
     work: &mut Work,
     context: &Context,
+    siblings: &Siblings,
     items: &[Src],
 ) -> Result<Items<Node>, OpenFault>
     requires tags { AreTagsInPlace source.now.text.now (marks_of items.now) }
+    requires owned { siblings.now.origin ≡ owned source.now.file.now document }
     ensures value { IfOk result (λ nodes. Gives source.now.file.now context.now (items_in source.now.text.now items.now) nil work.old.count work.new.count nodes) }
     ensures count { IfOk result (λ nodes. work.new.count ≡ work.old.count + node_count (nodes_in nodes)) }
+    ensures paths { IfOk result (HavePaths siblings.now.path (items_in source.now.text.now items.now)) }
     ensures fault { IfErr result (GivesFault source.now.file.now context.now (items_in source.now.text.now items.now) work.old.count) }
 {
     let mut nodes = Vec::with_capacity(alloc, items.len())?;
-    for item in items {
-        put(&mut nodes, node_of(alloc, source, work, context, item)?)?;
+    for (index, item) in items.iter().enumerate() {
+        let address = siblings.address(index)?;
+        put(
+            &mut nodes,
+            node_of(alloc, source, work, context, item, address)?,
+        )?;
     }
     nodes.shrink_to_fit();
     Ok(Items::from_vec(nodes))

@@ -1,14 +1,16 @@
-use Rattle.std.proofs.Common.{◌≡◌, ◌∙◌, ap, ◌∷◌, [], arith}
-use Rattle.std.proofs.lemmas.Result.{err_from_is_err_and, IfErr-weaker}
+use Rattle.std.proofs.Common.{◌≡◌, ◌∙◌, ap, suc, ◌∷◌, [], arith}
+use Rattle.std.proofs.lemmas.Result.{err_from_is_err_and, IfErr-weaker, IfOk-weaker}
 use Rattle.xt_spec.specs.Tree.{Items}
-use Rattle.xt_tree.specs.Meaning.{items_in}
-use Rattle.bk_spec.specs.Node.{Origin, owned, element_node}
+use Rattle.xt_tree.specs.Meaning.{at_span, items_in}
+use Rattle.bk_spec.specs.Node.{Origin, element_node}
 use Rattle.bk_info.specs.declared.node.Node.TheVariants as code
+use Rattle.bk_info.specs.Address.{Address}
 use Rattle.bk_info.specs.Nodes.{nodes_in, head_in}
-use Rattle.ent_doc.specs.Steps.{Gives, GivesFault, element_in}
+use Rattle.ent_doc.specs.Steps.{Gives, GivesFault, HasPaths, element_in, some_node}
 use Rattle.ent_doc.proofs.ElementLemmas.{element_gives, own_fails, room_fails, kids_fail}
-use Rattle.bk_info.proofs.Theorems.{element_is}
+use Rattle.bk_info.proofs.Theorems.{element_is, element_paths}
 use Rattle.ent_doc.proofs.ItemLemmas.{kids_in_place, kids_fewer, item_fewer, of_element, of_text, of_comment, of_pi, next_in_place, items_step, items_fail, items_begin, items_end, count_step}
+use Rattle.ent_doc.proofs.PathLemmas.{element_has_paths, paths_begin, paths_step, paths_end}
 use Rattle.ent_doc.proofs.tree.+tree.Goals as goal
 
 pub element_node-returns-in_err-own-clause-fault : goal.element_node-returns-in_err-own-clause-fault
@@ -36,18 +38,17 @@ element_node-returns-in_err-kids-clause-fault t c =
 
 pub element_node-returns-clause-value : goal.element_node-returns-clause-value
 element_node-returns-clause-value t c close rest =
-    let own : c.in_ok-share.field-0 ≡ owned c.args.source.now.file.now = c.in_ok-share.ensures.value ∙ c.args.source.now.owned in
-    element_gives c.args.source.now.text.now c.args.source.now.file.now c.args.context.now c.args.tag.now (items_in c.args.source.now.text.now c.args.kids.now) rest close c.args.work.now.count c.count_one.new.self.count c.nodes_of.new.work.count c.in_ok-qname.qname.now c.as_slice.result.now c.in_ok-values.values.items
-    (element_in c.args.source.now.file.now c.in_ok-own.own) c.in_ok-kids.kids (code.Elem c.in_ok-own.own.name c.in_ok-own.own.attrs c.in_ok-own.own.context c.in_ok-kids.kids c.in_ok-share.field-0)
+    element_gives c.args.source.now.text.now c.args.source.now.file.now c.args.context.now c.args.tag.now (items_in c.args.source.now.text.now c.args.kids.now) rest close c.args.work.now.count c.count_one.new.self.count c.kids_of.new.work.count c.in_ok-qname.qname.now c.as_slice.result.now c.in_ok-values.values.items
+    (element_in c.args.source.now.file.now c.in_ok-own.own) c.in_ok-kids.kids (code.Elem c.in_ok-own.own.name c.in_ok-own.own.attrs c.in_ok-own.own.context c.in_ok-kids.kids c.args.address)
     c.requires.tag c.in_ok-qname.ensures.value c.as_slice.ensures.value c.in_ok-values.ensures.value c.in_ok-own.ensures.value c.in_ok-count_one.ensures.room c.in_ok-count_one.ensures.count c.in_ok-kids.ensures.value c.in_ok-kids.ensures.count
-    (λ others. element_is c.in_ok-own.own.name c.in_ok-own.own.attrs c.in_ok-own.own.context c.in_ok-kids.kids c.in_ok-share.field-0 others
-    ∙ ap (λ (o : Origin). element_node (head_in c.in_ok-own.own.name c.in_ok-own.own.attrs c.in_ok-own.own.context o) (nodes_in c.in_ok-kids.kids) others) own)
+    (λ others. element_is c.in_ok-own.own.name c.in_ok-own.own.attrs c.in_ok-own.own.context c.in_ok-kids.kids c.args.address others
+    ∙ ap (λ (o : Origin). element_node (head_in c.in_ok-own.own.name c.in_ok-own.own.attrs c.in_ok-own.own.context o) (nodes_in c.in_ok-kids.kids) others) c.requires.owned)
 
 pub node_of-element_node-requires : goal.node_of-element_node-requires
 node_of-element_node-requires t c =
     let parts = kids_in_place c.args.source.now.text.now c.args.item.now c.in-Elem.head c.in-Elem.kids c.as_slice.result.now c.in-Elem.tail c.in-Elem.is c.as_slice.ensures c.requires.tags in
     let fewer = kids_fewer c.args.item.now c.in-Elem.head c.in-Elem.kids c.as_slice.result.now c.in-Elem.tail c.in-Elem.is c.as_slice.ensures in
-    (omega (arith, fewer), (parts.0, parts.1))
+    (omega (arith, fewer), (parts.0, (parts.1, c.requires.owned)))
 
 pub node_of-returns-in_err-element_node-in-Elem-clause-fault : goal.node_of-returns-in_err-element_node-in-Elem-clause-fault
 node_of-returns-in_err-element_node-in-Elem-clause-fault t c =
@@ -79,39 +80,72 @@ pub node_of-returns-in-Text-clause-fault : goal.node_of-returns-in-Text-clause-f
 node_of-returns-in-Text-clause-fault t c =
     IfErr-weaker c.text_node.result _ _ (λ fault fails rest. of_text c.args.source.now.text.now (λ (items : Items). GivesFault c.args.source.now.file.now c.args.context.now items c.args.work.now.count fault) rest c.args.item.now c.in-Text.span c.in-Text.is (fails c.args.context.now rest)) c.text_node.ensures.fault
 
-pub nodes_of-loop-item-init : goal.nodes_of-loop-item-init
-nodes_of-loop-item-init t c = record {
+pub nodes_of-loop-index-init : goal.nodes_of-loop-index-init
+nodes_of-loop-index-init t c = record {
   tags = c.requires.tags;
   gives = items_begin c.args.source.now.text.now c.args.source.now.file.now c.args.context.now c.args.items.now c.args.work.now.count c.in_ok-nodes.nodes.items c.in_ok-nodes.ensures.items;
+  paths = paths_begin (items_in c.args.source.now.text.now c.args.items.now) c.args.siblings.now.path c.in_ok-nodes.nodes.items c.in_ok-nodes.ensures.items;
   counted = rw c.in_ok-nodes.ensures.items (omega arith);
 }
 
 pub nodes_of-node_of-requires : goal.nodes_of-node_of-requires
 nodes_of-node_of-requires t c =
-    let fewer = item_fewer c.args.items.now c.loop-item.item-index c.item-item.result c.loop-item-test.true c.item-item.is in
-    (omega (arith, fewer), (next_in_place c.args.source.now.text.now c.args.items.now c.loop-item.item-index c.item-item.result c.loop-item-test.true c.item-item.is c.loop-item.invariant.tags).0)
+    let fewer = item_fewer c.args.items.now c.loop-index.index c.index-items-index.result c.loop-index-test.true c.index-items-index.is in
+    (omega (arith, fewer), ((next_in_place c.args.source.now.text.now c.args.items.now c.loop-index.index c.index-items-index.result c.loop-index-test.true c.index-items-index.is c.loop-index.invariant.tags).0, ap (λ (a : Address). a.origin) c.in_ok-address.ensures.value ∙ c.requires.owned))
 
 pub nodes_of-returns-in_err-node_of-clause-fault : goal.nodes_of-returns-in_err-node_of-clause-fault
 nodes_of-returns-in_err-node_of-clause-fault t c =
     let p = err_from_is_err_and c.from_residual-in_err-node_of.result c.from_residual-in_err-node_of.ensures.1 in
     rw (p.1, p.2)
-    (items_fail c.args.source.now.text.now c.args.source.now.file.now c.args.context.now c.args.items.now c.loop-item.item-index c.item-item.result c.args.work.now.count c.loop-item.work.count c.loop-item.nodes.items c.in_err-node_of.field-0.0 c.loop-item-test.true c.item-item.is
-    c.loop-item.invariant.gives c.in_err-node_of.ensures.fault)
+    (items_fail c.args.source.now.text.now c.args.source.now.file.now c.args.context.now c.args.items.now c.loop-index.index c.index-items-index.result c.args.work.now.count c.loop-index.work.count c.loop-index.nodes.items c.in_err-node_of.field-0.0 c.loop-index-test.true c.index-items-index.is
+    c.loop-index.invariant.gives c.in_err-node_of.ensures.fault)
 
-pub nodes_of-loop-item-preserved : goal.nodes_of-loop-item-preserved
-nodes_of-loop-item-preserved t c = record {
-  tags = (next_in_place c.args.source.now.text.now c.args.items.now c.loop-item.item-index c.item-item.result c.loop-item-test.true c.item-item.is c.loop-item.invariant.tags).1;
-  gives = items_step c.args.source.now.text.now c.args.source.now.file.now c.args.context.now c.args.items.now c.loop-item.item-index c.item-item.result c.args.work.now.count c.loop-item.work.count c.node_of.new.work.count c.loop-item.nodes.items _ c.put.new.nodes.items
-      c.loop-item-test.true c.item-item.is c.in_ok-put.ensures.value c.loop-item.invariant.gives c.in_ok-node_of.ensures.value;
-  counted = count_step c.args.work.now.count c.loop-item.work.count c.node_of.new.work.count c.loop-item.nodes.items _ c.put.new.nodes.items c.in_ok-put.ensures.value c.loop-item.invariant.counted c.in_ok-node_of.ensures.count;
+pub nodes_of-loop-index-preserved : goal.nodes_of-loop-index-preserved
+nodes_of-loop-index-preserved t c = record {
+  tags = (next_in_place c.args.source.now.text.now c.args.items.now c.loop-index.index c.index-items-index.result c.loop-index-test.true c.index-items-index.is c.loop-index.invariant.tags).1;
+  gives = items_step c.args.source.now.text.now c.args.source.now.file.now c.args.context.now c.args.items.now c.loop-index.index c.index-items-index.result c.args.work.now.count c.loop-index.work.count c.node_of.new.work.count c.loop-index.nodes.items _ c.put.new.nodes.items
+      c.loop-index-test.true c.index-items-index.is c.in_ok-put.ensures.value c.loop-index.invariant.gives c.in_ok-node_of.ensures.value;
+  paths = paths_step c.args.source.now.text.now c.args.source.now.file.now c.args.context.now c.args.items.now c.loop-index.index c.index-items-index.result c.args.work.now.count c.loop-index.work.count c.loop-index.nodes.items _ c.put.new.nodes.items c.args.siblings.now.path
+      c.loop-index-test.true c.index-items-index.is c.in_ok-put.ensures.value c.loop-index.invariant.gives c.loop-index.invariant.paths
+      (λ rest. c.in_ok-node_of.ensures.paths rest c.args.siblings.now.path c.loop-index.index (ap (λ (a : Address). a.path) c.in_ok-address.ensures.value));
+  counted = count_step c.args.work.now.count c.loop-index.work.count c.node_of.new.work.count c.loop-index.nodes.items _ c.put.new.nodes.items c.in_ok-put.ensures.value c.loop-index.invariant.counted c.in_ok-node_of.ensures.count;
 }
 
 pub nodes_of-returns-clause-value : goal.nodes_of-returns-clause-value
 nodes_of-returns-clause-value t c =
-    items_end c.args.source.now.text.now c.args.source.now.file.now c.args.context.now c.args.items.now c.loop-item.item-index c.args.work.now.count c.loop-item.work.count c.loop-item.nodes.items c.from_vec.result c.loop-item-test.false
-    (c.from_vec.ensures ∙ c.shrink_to_fit.ensures.items) c.loop-item.invariant.gives
+    items_end c.args.source.now.text.now c.args.source.now.file.now c.args.context.now c.args.items.now c.loop-index.index c.args.work.now.count c.loop-index.work.count c.loop-index.nodes.items c.from_vec.result c.loop-index-test.false
+    (c.from_vec.ensures ∙ c.shrink_to_fit.ensures.items) c.loop-index.invariant.gives
 
 pub nodes_of-returns-clause-count : goal.nodes_of-returns-clause-count
 nodes_of-returns-clause-count t c =
-    let same : c.from_vec.result ≡ c.loop-item.nodes.items = c.from_vec.ensures ∙ c.shrink_to_fit.ensures.items in
-    rw same c.loop-item.invariant.counted
+    let same : c.from_vec.result ≡ c.loop-index.nodes.items = c.from_vec.ensures ∙ c.shrink_to_fit.ensures.items in
+    rw same c.loop-index.invariant.counted
+
+pub nodes_of-returns-clause-paths : goal.nodes_of-returns-clause-paths
+nodes_of-returns-clause-paths t c =
+    paths_end c.args.source.now.text.now c.args.items.now c.loop-index.index c.loop-index.nodes.items c.from_vec.result c.args.siblings.now.path c.loop-index-test.false (c.from_vec.ensures ∙ c.shrink_to_fit.ensures.items) c.loop-index.invariant.paths
+
+pub element_node-returns-clause-paths : goal.element_node-returns-clause-paths
+element_node-returns-clause-paths t c close rest outer index same =
+    element_has_paths (at_span c.args.source.now.text.now c.args.tag.now.span) (items_in c.args.source.now.text.now c.args.kids.now) rest close (code.Elem c.in_ok-own.own.name c.in_ok-own.own.attrs c.in_ok-own.own.context c.in_ok-kids.kids c.args.address) c.in_ok-kids.kids c.args.address outer index
+    (element_paths c.in_ok-own.own.name c.in_ok-own.own.attrs c.in_ok-own.own.context c.in_ok-kids.kids c.args.address) same c.in_ok-kids.ensures.paths
+
+pub node_of-returns-in_ok-element_node-in-Elem-clause-paths : goal.node_of-returns-in_ok-element_node-in-Elem-clause-paths
+node_of-returns-in_ok-element_node-in-Elem-clause-paths t c rest outer index same =
+    of_element c.args.source.now.text.now (λ (items : Items). HasPaths outer index items rest (suc index) (c.in_ok-element_node-in-Elem.field-0 ∷ [])) rest c.args.item.now c.in-Elem.head c.in-Elem.kids c.as_slice.result.now c.in-Elem.tail c.in-Elem.is c.as_slice.ensures
+    (λ close. c.in_ok-element_node-in-Elem.ensures.paths close rest outer index same)
+
+pub node_of-returns-in-Text-clause-paths : goal.node_of-returns-in-Text-clause-paths
+node_of-returns-in-Text-clause-paths t c =
+    IfOk-weaker c.text_node.result _ _ (λ node paths rest outer index same.
+    of_text c.args.source.now.text.now (λ (items : Items). HasPaths outer index items rest (suc index) (some_node node)) rest c.args.item.now c.in-Text.span c.in-Text.is (paths outer index rest same)) c.text_node.ensures.paths
+
+pub node_of-returns-in_ok-comment_node-in-Comment-clause-paths : goal.node_of-returns-in_ok-comment_node-in-Comment-clause-paths
+node_of-returns-in_ok-comment_node-in-Comment-clause-paths t c rest outer index same =
+    of_comment c.args.source.now.text.now (λ (items : Items). HasPaths outer index items rest (suc index) (c.in_ok-comment_node-in-Comment.field-0 ∷ [])) rest c.args.item.now c.in-Comment.span c.in-Comment.is
+    (c.in_ok-comment_node-in-Comment.ensures.paths outer index rest same)
+
+pub node_of-returns-in_ok-pi_node-in-Pi-clause-paths : goal.node_of-returns-in_ok-pi_node-in-Pi-clause-paths
+node_of-returns-in_ok-pi_node-in-Pi-clause-paths t c rest outer index same =
+    of_pi c.args.source.now.text.now (λ (items : Items). HasPaths outer index items rest (suc index) (c.in_ok-pi_node-in-Pi.field-0 ∷ [])) rest c.args.item.now c.in-Pi.span c.in-Pi.is
+    (c.in_ok-pi_node-in-Pi.ensures.paths outer index rest same)
