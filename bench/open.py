@@ -1,5 +1,5 @@
 #!/usr/bin/env python3
-"""Times the proved program's open and print against xmllint, on plain documents of 1, 2 and 4 MiB; or counts instructions.
+"""Times the proved program's open and print against xmllint, on documents of 1, 2 and 4 MiB; or counts instructions.
 
 Each output is first compared with lines that are rendered here from Python's own XML parser. bench/README.md says more.
 """
@@ -15,9 +15,10 @@ import subprocess
 import sys
 import tempfile
 import time
-import xml.parsers.expat
 from pathlib import Path
 from typing import NamedTuple
+
+from expected import Expected
 
 TOP = Path(__file__).resolve().parent.parent
 MIB = 1_048_576
@@ -102,7 +103,60 @@ def text(size):
     return filled("<t>", lambda number: " ".join(rng.choice(WORDS) for _ in range(12)) + "\n", "</t>\n", size)
 
 
-CLASSES = {"book": book, "deep": deep, "nodes": nodes, "attributes": attributes, "text": text, "wide": wide}
+def namespaces(size):
+    """Prefixed elements and attributes; eight declarations at the root, and two in each section, one of them the default."""
+    rng = random.Random(4)
+    prefixes = ("db", "xl", "m", "svg", "dc", "t", "p1", "a-long-prefix")
+    front = "<db:book" + "".join(f"\n  xmlns:{prefix}=\"http://example.org/ns/{prefix}\"" for prefix in prefixes) + ">"
+
+    def section(number):
+        rows = []
+        for row in range(8):
+            outer, inner, attribute = (rng.choice(prefixes) for _ in range(3))
+            rows.append(
+                f"\n    <{outer}:row {attribute}:id=\"r{number}-{row}\" xl:href='#c{row}' n=\"{row}\">"
+                f"<{inner}:cell own:kind=\"k\">{sentence(rng, 3)}</{inner}:cell><cell/><own:cell m:x='{row}' t:x=\"{number}\"/></{outer}:row>"
+            )
+        return f"\n  <section xmlns=\"http://example.org/section\" xmlns:own='urn:own:{number % 100}'>{''.join(rows)}\n  </section>"
+
+    return filled(front, section, "\n</db:book>\n", size)
+
+
+def comments(size):
+    """Comments and processing instructions between elements."""
+    rng = random.Random(5)
+
+    def part(number):
+        return (
+            f"\n  <!-- {sentence(rng, 12)} -->\n  <?page number=\"{number}\" {rng.choice(WORDS)}?><p>{sentence(rng, 6)}</p>"
+            f"<!--{number}--><?break?><!-- {sentence(rng, 40)} - {sentence(rng, 20)} --><br/>"
+        )
+
+    return filled("<?xml version=\"1.0\"?>\n<!-- notes -->\n<notes>", part, "\n</notes>\n", size)
+
+
+def cdata(size):
+    """Long CDATA sections, and lines that end in CR LF."""
+    rng = random.Random(6)
+
+    def listing(number):
+        lines = "".join(f"  if (a[{rng.randint(0, 99)}] < b && c > d) {{ {rng.choice(WORDS)}(\"{rng.choice(WORDS)}\"); }}\r\n" for _ in range(60))
+        return f"<p>{sentence(rng, 12)}\r\n</p>\r\n<code n=\"{number}\"><![CDATA[\r\n{lines}]]></code>\r\n"
+
+    return filled("<listings>\r\n", listing, "</listings>\r\n", size)
+
+
+CLASSES = {
+    "book": book,
+    "deep": deep,
+    "nodes": nodes,
+    "attributes": attributes,
+    "namespaces": namespaces,
+    "text": text,
+    "comments": comments,
+    "cdata": cdata,
+    "wide": wide,
+}
 
 
 class Run(NamedTuple):
@@ -113,51 +167,6 @@ class Run(NamedTuple):
     peak: int
 
 
-class Expected:
-    """The printed tree of a document, rendered line by line from expat's events."""
-
-    ESCAPES = str.maketrans({"\"": "\\\"", "\\": "\\\\", "\n": "\\n", "\t": "\\t", "\r": "\\r"})
-
-    def __init__(self, document, name="book.xml", out=None):
-        self.name, self.level, self.pending, self.out = name, 0, [], out
-        self.hash, self.lines, self.elements, self.texts, self.bytes = hashlib.sha256(), 0, 0, 0, 0
-        parser = xml.parsers.expat.ParserCreate("UTF-8")
-        parser.ordered_attributes = True
-        parser.StartElementHandler = self.start
-        parser.EndElementHandler = self.end
-        parser.CharacterDataHandler = self.pending.append
-        parser.Parse(document, True)
-
-    def line(self, level, words):
-        line = ("  " * level + words + "\n").encode()
-        self.hash.update(line)
-        if self.out:
-            self.out.write(line)
-        self.lines += 1
-        self.bytes += len(line)
-
-    def settle(self):
-        if self.pending:
-            value = "".join(self.pending).translate(self.ESCAPES)
-            self.line(self.level, f"text \"{value}\" in {self.name}")
-            self.texts += 1
-            self.pending.clear()
-
-    def start(self, tag, attrs):
-        self.settle()
-        self.line(self.level, f"element {tag} in {self.name}")
-        self.elements += 1
-        self.level += 1
-        if self.level == 1:
-            self.line(1, f"base file:///book/{self.name}")
-        for at in range(0, len(attrs), 2):
-            self.line(self.level, f"attribute {attrs[at]}=\"{attrs[at + 1].translate(self.ESCAPES)}\"")
-
-    def end(self, _tag):
-        self.settle()
-        self.level -= 1
-
-
 def run_to_file(command, folder, path):
     with open(path, "wb") as out:
         return subprocess.run(command, cwd=folder, stdin=subprocess.DEVNULL, stdout=out, stderr=subprocess.DEVNULL).returncode
@@ -166,6 +175,8 @@ def run_to_file(command, folder, path):
 def check_output(command, folder, document):
     """The number of nodes, where the program prints exactly what is expected."""
     expected = Expected(document)
+    if expected.fault:
+        sys.exit(f"bench: a document that should open has {expected.fault}")
     path = Path(folder) / "printed"
     status = run_to_file(command, folder, path)
     digest, lines, count = hashlib.sha256(), 0, 0
@@ -362,7 +373,7 @@ def rows_of(words, commands, name, folders):
         for mib, tree in expected.items():
             print(f"{name} {mib} MiB: {tree.lines:,} lines as expected", flush=True)
         return []
-    rows = [{"name": name, "mib": mib, "nodes": tree.elements + tree.texts, "printed": tree.bytes} for mib, tree in expected.items()]
+    rows = [{"name": name, "mib": mib, "nodes": tree.nodes, "printed": tree.bytes} for mib, tree in expected.items()]
     if words.instructions:
         counted = ("program",) if words.alone else ("program", "noout")
         for row in rows:
