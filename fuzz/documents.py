@@ -10,7 +10,7 @@ from typing import NamedTuple
 from xml.parsers import expat
 
 from model import MOST_FILE  # and the folder of expected.py
-from expected import Expected
+from expected import Expected, printed_name
 
 MOST_LEVELS = 128
 
@@ -274,9 +274,14 @@ def edited(text, place, begin, end, string):
 
 # The answer to an opening
 
-# Name characters that XML 1.0 has since its fifth edition and expat has not, each with one that it has.
-STAND_IN = str.maketrans("\u0370\u200c\u2c00\u3001\uf900\U00010000\u203f", "\u0250\u0251\u0252\u0253\u0254\u0255\u0256")
+# Characters that names have since the fifth edition of XML 1.0 and expat's have not, each with one that expat's have.
+STAND_IN = str.maketrans("\u0370\u200c\u2c00\u3001\uf900\U00010000\ufeff\ud7ff\ufffd\U0001f600\u203f", "\u0250\u0251\u0252\u0253\u0254\u0255\u0256\u0257\u0258\u0259\u0302")
 STOOD_IN = {after: before for before, after in STAND_IN.items()}
+
+
+def for_expat(text):
+    """A document's text as expat takes it; a byte order mark stays."""
+    return (text[:1] + text[1:].translate(STAND_IN)).encode()
 
 
 def faulted(name, kind, *fields):
@@ -301,7 +306,7 @@ def opened_nodes(text, name, join):
     """The same of a text that has a reading and needs no declarations. Expat takes it for not well-formed where its own XML
     differs, which the model doesn't know of: that is told as its error."""
     lines = io.BytesIO()
-    expected = Expected(text.translate(STAND_IN).encode(), name, lines, join)
+    expected = Expected(for_expat(text), name, lines, lambda base, reference: join(base, reference.translate(STOOD_IN)))
     if expected.fault:
         fields = [field.translate(STOOD_IN) for field in expected.fault.fields]
         return faulted(name, expected.fault.kind, *fields)
@@ -319,7 +324,39 @@ def printed(text, name, join=None):
 def is_read_by_expat(text):
     """Whether expat takes a text for a well-formed document."""
     try:
-        expat.ParserCreate().Parse(text.translate(STAND_IN).encode(), True)
+        expat.ParserCreate().Parse(for_expat(text), True)
     except (expat.ExpatError, LookupError):
         return False
     return True
+
+
+SEPARATOR = "\x0c"  # no document holds it
+
+
+def names_by_expat(text):
+    """The names of elements and attributes as printed, in order, by expat's own namespaces; None where it refuses some."""
+    found = []
+
+    def shown(name):
+        space, _, local = name.rpartition(SEPARATOR)
+        return printed_name(space, local)
+
+    def start(name, attributes):
+        found.append(shown(name))
+        found.extend(shown(one) for one in attributes[::2])
+
+    parser = expat.ParserCreate(namespace_separator=SEPARATOR)
+    parser.ordered_attributes, parser.StartElementHandler = True, start
+    try:
+        parser.Parse(for_expat(text), True)
+    except expat.ExpatError:
+        return None
+    return [name.translate(STOOD_IN) for name in found]
+
+
+NAME_LINE = re.compile(r"^ *(?:element (?P<element>.*) in [^ \n]*$|attribute (?P<attribute>[^\"]*)=\")", re.M)
+
+
+def names_in(output):
+    """The names of elements and attributes of a printed tree."""
+    return [found["element"] if found["element"] is not None else found["attribute"] for found in NAME_LINE.finditer(output.decode())]

@@ -95,6 +95,8 @@ class Maker:
         if rng.random() < 0.03:
             found["xml"] = expected.XML
         if self.may_fault():
+            found["p"] = found["q"] = "u:1"
+        if self.may_fault():
             prefix = rng.choice(("", "p", "xml", "xmlns", "xi"))
             found[prefix] = rng.choice(("", expected.XML, expected.XMLNS, expected.XINCLUDE, "u:1"))
         return found, {**scope, **found}
@@ -118,6 +120,8 @@ class Maker:
             if name not in found and (own not in names or self.may_fault()):
                 found[name] = some_value(rng)
                 names.add(own)
+        if self.faults and scope.get("p", "") == scope.get("q") and rng.random() < 0.3:
+            found["p:a"] = found["q:a"] = ""
         if rng.random() < 0.15:
             found["xml:base"] = rng.choice(self.bases)
         if rng.random() < 0.1:

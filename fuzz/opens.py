@@ -32,8 +32,8 @@ ENTITY = re.compile(f"&{documents.NCNAME};")
 
 def differs_by_design(text):
     """Whether expat may say something else of well-formedness: it takes any version, colons where Namespaces in XML has none,
-    reads the declarations of a DOCTYPE, and does not take U+FEFF in a name. xmllint takes colons too."""
-    return ODD_VERSION.match(text) or ODD_COLON.search(text) or "\ufeff" in text[1:]
+    and reads the declarations of a DOCTYPE. xmllint takes colons too."""
+    return ODD_VERSION.match(text) or ODD_COLON.search(text)
 
 
 def without_entities(text):
@@ -65,6 +65,20 @@ def compare_readers(rng, content, answer, home, counts):
     agrees("expat", documents.is_read_by_expat(text), expected, text, counts)
     if rng.random() < 0.1:
         agrees("xmllint", is_read_by_xmllint(text, home), expected, text, counts)
+    if kind in (b"", *NAMESPACE_FAULTS):
+        compare_names(text, answer, counts)
+
+
+NAMESPACE_FAULTS = (b"BadNamespace", b"Unbound", b"DuplicateAttribute")
+
+
+def compare_names(text, answer, counts):
+    """Whether expat's own namespaces refuse a document where the model has such a fault, and else give the names that it has."""
+    names = documents.names_by_expat(text)
+    want("a fault of names by expat", names is None, answer[0] != 0)
+    if names is not None:
+        want("the names by expat", names, documents.names_in(answer[1]))
+    counts["expat, names"] += 1
 
 
 # Openings
