@@ -46,6 +46,9 @@ def authority(rng):
 def reference(rng):
     """A reference of any form."""
     kind = rng.random()
+    if kind < 0.05:
+        front = rng.choice(("mailto:", "data:", "urn:", "x:", "about:", "MAILTO:")) + "".join(rng.choice(SEGMENTS) for _ in range(rng.randint(0, 3)))
+        return front + rng.choice(("", "", "", "/", " ")) + rng.choice(QUERIES) + rng.choice(FRAGMENTS) + rng.choice(EDGES)
     if kind < 0.35:
         front = rng.choice(SCHEMES) + ":" + rng.choice(SLASHES) if kind < 0.1 else f"{rng.choice(SCHEMES)}://{authority(rng)}"
     elif kind < 0.45:

@@ -71,6 +71,8 @@ def left_out(base, reference):
         return "a segment that begins like a drive"
     if re.match(f"(?!{SPECIAL}:)[^:]*:(?://[^/?#]*)?(?:[?#]|$)", joined) and re.match("[^?#]*[/.%]", text):
         return "no path, where the scheme is not special"
+    if re.match("[^:]*:(?!/)[^?#]* [?#]", joined):
+        return "a space at the end of an opaque path"
     if re.search("(?i)xn--", text) and not joined:
         return "an xn-- label"
     return None
