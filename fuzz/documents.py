@@ -115,7 +115,7 @@ class Reading:
         found = TOKEN.match(self.text, self.at)
         if not found:
             raise Faulty("NotWellFormed")
-        kind = found.lastgroup if found.lastgroup in WAYS else next(one for one in WAYS if found[one] is not None)
+        kind = found.lastgroup
         if kind in ("start", "end", "reference", "cdata", "doctype") or (kind == "chars" and not self.opened):
             getattr(self, kind)(found)
         elif kind == "chars":
@@ -190,7 +190,13 @@ class Reading:
         self.put("doctype", found.end())
 
 
-WAYS = ("start", "end", "chars", "reference", "cdata", "comment", "pi", "doctype")
+def is_well_formed(text):
+    """Whether a text has a reading, however deep it is."""
+    try:
+        Reading(text)
+    except Faulty as fault:
+        return str(fault) != "NotWellFormed"
+    return True
 
 
 # Values and nodes
