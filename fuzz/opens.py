@@ -61,7 +61,8 @@ def compare_readers(rng, content, answer, home, counts):
         return
     text, expected = without_entities(content.decode()), kind != b"NotWellFormed"
     agrees("expat", documents.is_read_by_expat(text), expected, text, counts)
-    if rng.random() < 0.1:
+    # libxml2 passes over declarations of `xml` before it looks for two attributes of one name.
+    if rng.random() < 0.1 and text.count("xmlns:xml") < 2:
         agrees("xmllint", is_read_by_xmllint(text, home), expected, text, counts)
     if kind in (b"", *NAMESPACE_FAULTS):
         compare_names(text, answer, counts)
