@@ -1,5 +1,5 @@
 #!/usr/bin/env python3
-"""Times the proved program's open and print against xmllint, on plain documents of 1, 2 and 4 MiB; or counts instructions.
+"""Times the proved program's open and print against xmllint, on documents of 1, 2 and 4 MiB; or counts instructions.
 
 Each output is first compared with lines that are rendered here from Python's own XML parser. bench/README.md says more.
 """
@@ -7,7 +7,6 @@ import argparse
 import hashlib
 import os
 import platform
-import random
 import re
 import shutil
 import statistics
@@ -15,94 +14,14 @@ import subprocess
 import sys
 import tempfile
 import time
-import xml.parsers.expat
 from pathlib import Path
 from typing import NamedTuple
 
+from classes import CLASSES, MIB
+from expected import Expected
+
 TOP = Path(__file__).resolve().parent.parent
-MIB = 1_048_576
 LINEAR = 4.4
-WORDS = (
-    "the of and a to in is that it was for on are with as his they be at one have this from or had by hot word but what "
-    "some we can out other were all there when up use your how said an each she which do their time if will way about many "
-    "then them write would like so these her long make thing see him two has look more day could go come did number sound "
-    "no most people my over know water than call first who may down side been now find naïve café größer"
-).split()
-
-
-def sentence(rng, count):
-    """So many words; among them a reference, a quote or a line end now and then."""
-    words = [rng.choice(WORDS) for _ in range(count)]
-    for at in range(0, count, 17):
-        words[at] = rng.choice(("&amp;", "&#8212;", "\"quoted\"", "&lt;tag&gt;", "\n", "it's"))
-    return " ".join(words)
-
-
-def filled(front, unit, back, size):
-    """A document of exactly so many bytes: units from a call by number, then spaces at the end."""
-    parts, left, number = [front], size - len(front.encode()) - len(back.encode()), 0
-    while True:
-        part = unit(number)
-        length = len(part.encode())
-        if length > left:
-            break
-        parts.append(part)
-        left -= length
-        number += 1
-    return ("".join(parts) + back + " " * left).encode()
-
-
-def book(size):
-    rng = random.Random(1)
-
-    def chapter(number):
-        paragraphs = []
-        for paragraph in range(12):
-            paragraphs.append(
-                f"\n      <p id=\"p{number}-{paragraph}\">{sentence(rng, 40)} <em>{sentence(rng, 3)}</em> {sentence(rng, 25)}</p>"
-            )
-        return (
-            f"\n  <chapter id='c{number}' status=\"{rng.choice(('draft', 'done &amp; read'))}\">\n    <title>{sentence(rng, 6)}</title>"
-            f"\n    <section>{''.join(paragraphs)}\n    </section>\n  </chapter>"
-        )
-
-    return filled("<book lang=\"en\">", chapter, "\n</book>\n", size)
-
-
-def deep(size):
-    rng = random.Random(2)
-
-    def chain(_number):
-        down = "".join(f"<s>{' '.join(rng.choice(WORDS) for _ in range(12))}" for _ in range(127))
-        return down + "</s>" * 127
-
-    return filled("<deep>", chain, "</deep>\n", size)
-
-
-def nodes(size):
-    return filled("<n>", lambda number: "<a/><bc/>", "</n>\n", size)
-
-
-def attributes(size, most=16):
-    names = [f"{chr(97 + at % 26)}{at}" for at in range(most)]
-
-    def element(number):
-        tag = "".join(f" {name}=\"{number * 7 % 100000} {'x' * (at % 9)}\"" for at, name in enumerate(names))
-        return f"<e{tag}/>"
-
-    return filled("<a>", element, "</a>\n", size)
-
-
-def wide(size):
-    return attributes(size, 1000)
-
-
-def text(size):
-    rng = random.Random(3)
-    return filled("<t>", lambda number: " ".join(rng.choice(WORDS) for _ in range(12)) + "\n", "</t>\n", size)
-
-
-CLASSES = {"book": book, "deep": deep, "nodes": nodes, "attributes": attributes, "text": text, "wide": wide}
 
 
 class Run(NamedTuple):
@@ -113,51 +32,6 @@ class Run(NamedTuple):
     peak: int
 
 
-class Expected:
-    """The printed tree of a document, rendered line by line from expat's events."""
-
-    ESCAPES = str.maketrans({"\"": "\\\"", "\\": "\\\\", "\n": "\\n", "\t": "\\t", "\r": "\\r"})
-
-    def __init__(self, document, name="book.xml", out=None):
-        self.name, self.level, self.pending, self.out = name, 0, [], out
-        self.hash, self.lines, self.elements, self.texts, self.bytes = hashlib.sha256(), 0, 0, 0, 0
-        parser = xml.parsers.expat.ParserCreate("UTF-8")
-        parser.ordered_attributes = True
-        parser.StartElementHandler = self.start
-        parser.EndElementHandler = self.end
-        parser.CharacterDataHandler = self.pending.append
-        parser.Parse(document, True)
-
-    def line(self, level, words):
-        line = ("  " * level + words + "\n").encode()
-        self.hash.update(line)
-        if self.out:
-            self.out.write(line)
-        self.lines += 1
-        self.bytes += len(line)
-
-    def settle(self):
-        if self.pending:
-            value = "".join(self.pending).translate(self.ESCAPES)
-            self.line(self.level, f"text \"{value}\" in {self.name}")
-            self.texts += 1
-            self.pending.clear()
-
-    def start(self, tag, attrs):
-        self.settle()
-        self.line(self.level, f"element {tag} in {self.name}")
-        self.elements += 1
-        self.level += 1
-        if self.level == 1:
-            self.line(1, f"base file:///book/{self.name}")
-        for at in range(0, len(attrs), 2):
-            self.line(self.level, f"attribute {attrs[at]}=\"{attrs[at + 1].translate(self.ESCAPES)}\"")
-
-    def end(self, _tag):
-        self.settle()
-        self.level -= 1
-
-
 def run_to_file(command, folder, path):
     with open(path, "wb") as out:
         return subprocess.run(command, cwd=folder, stdin=subprocess.DEVNULL, stdout=out, stderr=subprocess.DEVNULL).returncode
@@ -166,6 +40,8 @@ def run_to_file(command, folder, path):
 def check_output(command, folder, document):
     """The number of nodes, where the program prints exactly what is expected."""
     expected = Expected(document)
+    if expected.fault:
+        sys.exit(f"bench: a document that should open has {expected.fault}")
     path = Path(folder) / "printed"
     status = run_to_file(command, folder, path)
     digest, lines, count = hashlib.sha256(), 0, 0
@@ -362,7 +238,7 @@ def rows_of(words, commands, name, folders):
         for mib, tree in expected.items():
             print(f"{name} {mib} MiB: {tree.lines:,} lines as expected", flush=True)
         return []
-    rows = [{"name": name, "mib": mib, "nodes": tree.elements + tree.texts, "printed": tree.bytes} for mib, tree in expected.items()]
+    rows = [{"name": name, "mib": mib, "nodes": tree.nodes, "printed": tree.bytes} for mib, tree in expected.items()]
     if words.instructions:
         counted = ("program",) if words.alone else ("program", "noout")
         for row in rows:

@@ -16,7 +16,9 @@ from pathlib import Path
 TOP = Path(__file__).resolve().parent.parent
 sys.path.insert(0, str(TOP / "fuzz"))
 sys.dont_write_bytecode = True
+import documents  # noqa: E402
 import model  # noqa: E402
+from classes import CLASSES  # noqa: E402
 
 ROOT = "book.xml"
 AIM = 1.25
@@ -102,25 +104,25 @@ def place_of_text(text):
     def texts(nodes, place, path):
         names = {}
         for number, node in enumerate(nodes, 1):
-            test = "text()" if node.is_text else "*"
+            test = "text()" if node.kind == "text" else "*"
             names[test] = names.get(test, 0) + 1
             here = (*place, number), f"{path}/{test}[{names[test]}]"
-            if node.is_text:
+            if node.kind == "text":
                 yield node.end - node.begin, *here
             yield from texts(node.kids, *here)
 
-    _, place, path = max(texts(model.nodes_of(text), (), ""))
+    _, place, path = max(texts(documents.nodes_of(text), (), ""))
     return place, path
 
 
 def save_times(folder, program, size, repeats):
     """Times of one edit with a burst of a book of so many bytes, of plain writes of journal and file, and of xmlstarlet."""
-    old = model.bench_open.CLASSES["book"](size)
+    old = CLASSES["book"](size)
     place, path = place_of_text(old.decode())
-    reply, new = model.edited(old.decode(), place, 0, 1, "Z")
+    reply, new = documents.edited(old.decode(), place, 0, 1, "Z")
     model.want("the model's reply", reply, "ok")
     script = ("text " + "".join(f"/{number}" for number in place) + " 0 1 \"Z\"\nburst\n").encode()
-    value = model.value_of(new[slice(*span_at(new, place))])
+    value = documents.value_of(new[slice(*span_at(new, place))])
     journal = model.journal_of([(ROOT.encode(), new.encode())])
     commands = {"save": [program, ROOT], "open": [program, ROOT]}
     if shutil.which("xmlstarlet"):
@@ -143,7 +145,7 @@ def save_times(folder, program, size, repeats):
 
 
 def span_at(text, place):
-    node = model.node_at(model.nodes_of(text), place)
+    node = documents.node_at(documents.nodes_of(text), place)
     return node.begin, node.end
 
 

@@ -1,85 +1,32 @@
 #!/usr/bin/env python3
-"""Random plain documents and random scripts: replies, final tree and files against a model. fuzz/README.md says more."""
-import argparse
+"""Random documents and random scripts: replies, final tree and files against a model. fuzz/README.md says more."""
 import collections
-import random
-import shutil
-import sys
-import tempfile
-import time
-import traceback
-from pathlib import Path
+import os
 
+import documents
+import made
 import model
-from model import Fault, want
+import rounds
+import urls
+from model import want
 
 ROOT = "book.xml"
-STARTS = "abcxyzABC_" + "éßøΩЖ中\u0370\u200c\u2c00\u3001\uf900\U00010000"
-MORE = STARTS + "0123456789-." + "\u00b7\u0300\u203f"
-PLAIN = "aaabcde   fghij\n\t\"'>]]é中\u0085\u2028\u00a0\u007f\ud7ff\ue000\ufeff\ufffd\U0001f600\U0010ffff"
-# Name characters that XML 1.0 has since its fifth edition and Python's parser has not, each with one that it has.
-STAND_IN = str.maketrans("\u0370\u200c\u2c00\u3001\uf900\U00010000\u203f", "\u0250\u0251\u0252\u0253\u0254\u0255\u0256")
-STOOD_IN = {after: before for before, after in STAND_IN.items()}
-REFERENCES = ["&lt;", "&gt;", "&amp;", "&apos;", "&quot;", "&#38;", "&#x26;", "&#10;", "&#13;", "&#9;", "&#x1F600;", "&#0000065;", "&#xFEFF;", "&#93;", "&#x10FFFF;"]
 NO_CHARS = "\x00\x01\x08\x0b\x1f\ufffe\uffff"
 
 
 def printed(text):
-    """The printed tree of a document, which Python's parser has to take."""
-    return model.printed(text.translate(STAND_IN).encode(), ROOT).decode().translate(STOOD_IN).encode()
-
-
-def name_of(rng):
-    name = rng.choice(STARTS) + "".join(rng.choice(MORE) for _ in range(rng.choice((0, 0, 1, 2, 5))))
-    return name if name != "xmlns" else "a"
-
-
-def raw_text(rng, most=12):
-    """The raw text of an item: characters and references, never `]]>`."""
-    parts = [rng.choice(REFERENCES) if rng.random() < 0.2 else rng.choice(PLAIN) for _ in range(rng.randint(1, most))]
-    return "".join(parts).replace("]]>", "]] >").replace("]]>", "] >")
-
-
-def attribute(rng, name):
-    quote = rng.choice("\"'")
-    parts = [rng.choice(REFERENCES) if rng.random() < 0.2 else rng.choice(PLAIN) for _ in range(rng.choice((0, 1, 3, 8)))]
-    value = "".join(part for part in parts if part != quote)
-    gap = rng.choice((" ", "  ", "\n", "\t "))
-    return f"{gap}{name}{rng.choice(('=', ' =', '= ', ' = '))}{quote}{value}{quote}"
-
-
-def element(rng, level, budget):
-    """An element of random content; `budget` bounds how many more there may be."""
-    name = name_of(rng)
-    names = list(dict.fromkeys(name_of(rng) for _ in range(rng.choice((0, 0, 0, 1, 2, 20)))))
-    head = name + "".join(attribute(rng, one) for one in names) + rng.choice(("", "", " ", "\n"))
-    budget[0] -= 1
-    if rng.random() < 0.2:
-        return f"<{head}/>"
-    parts, was_text = [], True
-    if rng.random() < 0.7:
-        was_text = False
-    for _ in range(rng.choice((0, 1, 2, 3, 6))):
-        if rng.random() < 0.5 and not was_text:
-            parts.append(raw_text(rng))
-            was_text = True
-        elif budget[0] > 0 and level < 100:
-            parts.append(element(rng, level + 1, budget))
-            was_text = False
-    return f"<{head}>{''.join(parts)}</{name}{rng.choice(('', '', ' '))}>"
+    """The printed tree of a document, which expat has to take."""
+    return documents.printed(text, ROOT, urls.join)
 
 
 def document(rng):
-    """A plain document."""
-    kind = rng.random()
-    if kind < 0.05:
-        text = raw_text(rng)
-        levels = rng.randint(1, 128)
-        return "".join(f"<n{level}>" for level in range(levels)) + text + "".join(f"</n{level}>" for level in reversed(range(levels)))
-    if kind < 0.1:
-        return "<t>" + raw_text(rng, 5000) + "</t>"
-    gaps = [rng.choice(("", "", "\n", " \t\n")) for _ in range(2)]
-    return gaps[0] + element(rng, 1, [rng.choice((1, 5, 40))]) + gaps[1]
+    """A document that opens, mostly one with a text."""
+    wants_text = rng.random() < 0.9
+    while True:
+        text = made.document(rng)
+        status, output = documents.opened(text.encode(), ROOT, urls.join)
+        if status == 0 and (b" text \"" in output or not wants_text):
+            return text
 
 
 # Scripts
@@ -105,8 +52,8 @@ def new_text(rng):
     if kind < 0.15:
         return ""
     if kind < 0.2:
-        return rng.choice(("]", "\n", "]]>", "\ufeff", "\r", "<", "&amp;", "\r\n", "]]"))
-    chars = [rng.choice(PLAIN + "<&\r\\") for _ in range(rng.randint(1, 10))]
+        return rng.choice(("]", "\n", "]]>", "\ufeff", "\r", "<", "&amp;", "\r\n", "]]", "<![CDATA[", "-->"))
+    chars = [rng.choice(made.PLAIN + "<&\\") for _ in range(rng.randint(1, 10))]
     if rng.random() < 0.08:
         chars.insert(rng.randint(0, len(chars)), rng.choice(NO_CHARS))
     return "".join(chars)
@@ -122,12 +69,12 @@ def places_of(nodes, front=()):
 
 def some_edit(rng, text):
     """An edit: its place, its range and its text; mostly one that may be made."""
-    places = list(places_of(model.nodes_of(text)))
-    texts = [(place, node) for place, node in places if node.is_text]
+    places = list(places_of(documents.nodes_of(text)))
+    texts = [(place, node) for place, node in places if node.kind == "text"]
     kind = rng.random()
     if texts and kind < 0.85:
         place, node = rng.choice(texts)
-        count = len(model.value_of(text[node.begin : node.end]))
+        count = len(documents.value_of(text[node.begin : node.end]))
     else:
         place, node = rng.choice(places)
         count = rng.randint(0, 3)
@@ -181,7 +128,7 @@ class Run:
             self.tell(line_of(rng, ["burst"]), f"burst {int(changed)}")
             return
         place, begin, end, string = some_edit(rng, self.text)
-        reply, self.text = model.edited(self.text, place, begin, end, string)
+        reply, self.text = documents.edited(self.text, place, begin, end, string)
         where = "".join(f"/{number}" for number in place)
         self.tell(line_of(rng, ["text", where, str(begin), str(end), spelled(rng, string)]), reply)
 
@@ -201,6 +148,12 @@ def whole_script(run, rng):
     if rng.random() < 0.3 and script.endswith(b"\n"):
         script = script[:-2] if script.endswith(b"\r\n") else script[:-1]
     return script
+
+
+def put_script(folder, script):
+    """Keeps the script beside the folder, to be found where a round fails."""
+    with open(os.path.join(os.path.dirname(folder), "script"), "wb") as file:
+        file.write(script)
 
 
 def started(rng, text):
@@ -232,7 +185,7 @@ def check_edits(rng, folder, program):
         if rng.random() < 0.2:
             run.nothing()
     script = whole_script(run, rng)
-    (Path(folder).parent / "script").write_bytes(script)
+    put_script(folder, script)
     told = model.run(folder, [ROOT], script, program)
     want("output", told.output, b"".join(run.replies) + printed(run.text))
     want("status", told.status, int(any(reply.startswith(b"refused") for reply in run.replies)))
@@ -261,7 +214,7 @@ def check_faulty_script(rng, folder, program):
     if rng.random() < 0.3:
         run.script.append(rng.choice(NO_LINES))
     script = b"".join(run.script)
-    (Path(folder).parent / "script").write_bytes(script)
+    put_script(folder, script)
     want("a faulty script", model.run(folder, [ROOT], script, program), model.Told(4, f"fault script line {at + 1}\n".encode()))
     want("files", model.files_in(folder), files)
     return collections.Counter(["fault script line"])
@@ -288,16 +241,16 @@ def check_size_of_file(rng, folder, program):
     """Edits round the greatest file."""
     free = rng.randint(0, 40)
     front, back = "<a>b<c/>", "</a>"
-    text = front + "x" * (model.MOST_FILE - free - len(front) - len(back)) + back
+    text = front + "x" * (documents.MOST_FILE - free - len(front) - len(back)) + back
     model.put_files(folder, {ROOT.encode(): text.encode()})
     run = Run(rng, text)
     for _ in range(4):
         place = rng.choice(((1, 1), (1, 3)))
-        node = model.node_at(model.nodes_of(run.text), place)
-        count = len(model.value_of(run.text[node.begin : node.end]))
+        node = documents.node_at(documents.nodes_of(run.text), place)
+        count = len(documents.value_of(run.text[node.begin : node.end]))
         begin = rng.randint(0, count)
         string = rng.choice("<y中") * rng.randint(0, 14)
-        reply, run.text = model.edited(run.text, place, begin, begin, string)
+        reply, run.text = documents.edited(run.text, place, begin, begin, string)
         run.tell("text " + "".join(f"/{number}" for number in place) + f" {begin} {begin} {spelled(rng, string)}", reply)
     script = b"".join(run.script) + b"burst\n"
     told = model.run(folder, [ROOT], script, program)
@@ -307,41 +260,13 @@ def check_size_of_file(rng, folder, program):
     return run.counts
 
 
-def one_round(seed, top, program):
-    """One round; its folder stays where it fails."""
-    rng = random.Random(seed)
+def edits_round(rng, home, program):
     kind = rng.random()
     check = check_faulty_script if kind < 0.15 else check_size_of_file if kind > 0.995 else check_size_of_script if kind > 0.99 else check_edits
-    home = Path(top) / str(seed)
-    folder = home / "folder"
-    folder.mkdir(parents=True)
-    counts = check(rng, folder, program)
-    shutil.rmtree(home)
-    return counts
-
-
-def main():
-    parser = argparse.ArgumentParser(description=__doc__)
-    parser.add_argument("--program", default=str(model.PROGRAM))
-    parser.add_argument("--seconds", type=float, default=60)
-    parser.add_argument("--seed", type=int, default=None, help="the first round's number; rounds count up from it")
-    parser.add_argument("--rounds", type=int, default=None, help="how many rounds, in place of a time")
-    words = parser.parse_args()
-    seed = words.seed if words.seed is not None else random.randrange(1 << 40)
-    top = tempfile.mkdtemp(prefix="bookedit-edits-")
-    end, done, counts = time.monotonic() + words.seconds, 0, collections.Counter()
-    print(f"edits: rounds from {seed} on, in {top}", flush=True)
-    while done < words.rounds if words.rounds is not None else time.monotonic() < end:
-        try:
-            counts += one_round(seed + done, top, words.program)
-        except Exception as fault:
-            if not isinstance(fault, Fault):
-                traceback.print_exc()
-            sys.exit(f"edits: round {seed + done} (folder and script in {top}/{seed + done}): {fault}")
-        done += 1
-    shutil.rmtree(top)
-    print(f"edits: {done} rounds, no difference; {dict(sorted(counts.items()))}")
+    folder = os.path.join(home, "folder")
+    os.mkdir(folder)
+    return check(rng, folder, program)
 
 
 if __name__ == "__main__":
-    main()
+    rounds.go("edits", __doc__, {"edits": edits_round})

@@ -1,20 +1,16 @@
 #!/usr/bin/env python3
 """Stops the program in saves and recoveries, and looks at what the next run makes of the folder. fuzz/README.md says more."""
-import argparse
 import collections
 import errno
 import os
-import random
 import re
-import shutil
 import subprocess
-import sys
-import tempfile
 import time
-import traceback
 from pathlib import Path
 
+import documents
 import model
+import rounds
 from model import GATE, JOURNAL, Fault, want
 
 ROOT = "book.xml"
@@ -74,7 +70,7 @@ def save_case(rng, most):
     books, script = [model.book_of(files)], []
     for number in range(rng.choice((1, 1, 2, 3))):
         string = f"{number}" + rng.choice("uvw") * rng.randint(0, min(most, 300_000))
-        reply, text = model.edited(text, (1, 1), 0, 1, string)
+        reply, text = documents.edited(text, (1, 1), 0, 1, string)
         want("the model's reply", reply, "ok")
         script.append(f"text /1/1 0 1 \"{string}\"\nburst\n")
         books.append({**books[0], ROOT.encode(): text.encode()})
@@ -98,6 +94,11 @@ def recovery_case(rng, most, count):
 # After a stop
 
 
+def printed(book):
+    """The printed tree of the root."""
+    return documents.printed(book[ROOT.encode()].decode(), ROOT)
+
+
 def check_folder(case, folder, saves, program):
     """Whether the next run gives the book of the saves that were told, or of one more, and the run after it changes nothing."""
     want("the other files", case.others(model.files_in(folder)), case.others(case.files))
@@ -108,7 +109,7 @@ def check_folder(case, folder, saves, program):
         raise Fault(f"after {saves} saves: {model.short(book)}")
     if files.get(GATE.encode()) == b"OPEN":
         raise Fault("the gate is still open")
-    want("the output of the next run", again, model.Told(0, model.printed(book[ROOT.encode()], ROOT)))
+    want("the output of the next run", again, model.Told(0, printed(book)))
     want("the run after it", model.run(folder, [ROOT], b"", program), again)
     want("the files after it", model.files_in(folder), files)
     return "new" if book == case.books[-1] else "old"
@@ -121,7 +122,7 @@ def saves_in(told):
 
 def whole_output(case):
     """What a run that is not stopped tells, and its status."""
-    return b"ok\nburst 1\n" * (len(case.books) - 1) + model.printed(case.books[-1][ROOT.encode()], ROOT)
+    return b"ok\nburst 1\n" * (len(case.books) - 1) + printed(case.books[-1])
 
 
 def check_told(case, told):
@@ -443,33 +444,5 @@ def journal_round(rng, home, program):
 ROUNDS = {"kill": kill_round, "stops": stop_round, "cuts": cut_round, "journals": journal_round}
 
 
-def main():
-    parser = argparse.ArgumentParser(description=__doc__)
-    parser.add_argument("ways", nargs="*", default=list(ROUNDS), help="which of " + ", ".join(ROUNDS))
-    parser.add_argument("--program", default=str(model.PROGRAM))
-    parser.add_argument("--seconds", type=float, default=60, help="for each of the ways")
-    parser.add_argument("--seed", type=int, default=None, help="the first round's number; rounds count up from it")
-    parser.add_argument("--rounds", type=int, default=None, help="how many rounds of each, in place of a time")
-    words = parser.parse_args()
-    seed = words.seed if words.seed is not None else random.randrange(1 << 40)
-    top = tempfile.mkdtemp(prefix="bookedit-kill-")
-    print(f"kill: rounds from {seed} on, in {top}", flush=True)
-    for way in words.ways:
-        end, done, counts = time.monotonic() + words.seconds, 0, collections.Counter()
-        while done < words.rounds if words.rounds is not None else time.monotonic() < end:
-            home = os.path.join(top, f"{way}-{seed + done}")
-            os.mkdir(home)
-            try:
-                counts += ROUNDS[way](random.Random(seed + done), home, words.program)
-            except Exception as fault:
-                if not isinstance(fault, Fault):
-                    traceback.print_exc()
-                sys.exit(f"kill: {way}, round {seed + done} (left in {home}): {fault}")
-            shutil.rmtree(home)
-            done += 1
-        print(f"kill: {way}: {done} rounds, no difference; {dict(sorted(counts.items()))}", flush=True)
-    shutil.rmtree(top)
-
-
 if __name__ == "__main__":
-    main()
+    rounds.go("kill", __doc__, ROUNDS)

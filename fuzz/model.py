@@ -1,13 +1,12 @@
-"""What the program should do, told apart from its code: plain documents, edits of texts, scripts, journals, folders.
+"""What the program should do, told apart from its code: journals, folders, runs. documents.py has one document.
 
-docs/FORMATS.md says the rules. Offsets are characters of a text, from 0, half open.
+docs/FORMATS.md says the rules.
 """
-import importlib.util
-import io
 import os
 import re
 import shutil
 import subprocess
+import sys
 from pathlib import Path
 from typing import NamedTuple
 
@@ -20,120 +19,7 @@ MOST_FILE = 4_194_304
 MOST_ITEMS = 5_120
 MOST_JOURNAL = 68_450_316
 SECONDS = 120
-
-_spec = importlib.util.spec_from_file_location("bench_open", TOP / "bench" / "open.py")
-bench_open = importlib.util.module_from_spec(_spec)
-_spec.loader.exec_module(bench_open)
-
-
-# Characters and values
-
-
-def is_char(c):
-    """XML 1.0, [2] Char."""
-    n = ord(c)
-    return n in (9, 10, 13) or 0x20 <= n <= 0xD7FF or 0xE000 <= n <= 0xFFFD or 0x10000 <= n
-
-
-NAMED = {"lt": "<", "gt": ">", "amp": "&", "apos": "'", "quot": '"'}
-REFERENCE = re.compile(r"&(?:#x([0-9a-fA-F]+)|#([0-9]+)|([a-z]+));")
-
-
-def value_of(raw):
-    """The value of a text item: its references replaced (XML 1.0, 4.1 and 4.6)."""
-
-    def char(found):
-        hexadecimal, decimal, named = found.groups()
-        if hexadecimal:
-            return chr(int(hexadecimal, 16))
-        return chr(int(decimal)) if decimal else NAMED[named]
-
-    return REFERENCE.sub(char, raw)
-
-
-def escaped(value):
-    """A value as it is written into a text item."""
-    parts = []
-    for at, c in enumerate(value):
-        if c in "&<>\r\ufeff":
-            parts.append({"&": "&amp;", "<": "&lt;", ">": "&gt;", "\r": "&#13;", "\ufeff": "&#65279;"}[c])
-        elif c == "\n" and at == 0:
-            parts.append("&#10;")
-        elif c == "]" and at == len(value) - 1:
-            parts.append("&#93;")
-        else:
-            parts.append(c)
-    return "".join(parts)
-
-
-# Documents
-
-
-class Node(NamedTuple):
-    """An element or a text of a plain document. Of a text `begin` and `end` bound its item."""
-
-    is_text: bool
-    begin: int
-    end: int
-    kids: list
-
-
-PART = re.compile(r"""<(?:[^<>"']|"[^"]*"|'[^']*')*>|[^<]+""")
-
-
-def nodes_of(text):
-    """The nodes at the top of a plain document. It is not asked here whether it is one."""
-    top = []
-    opened = [top]
-    for part in PART.finditer(text):
-        raw, kids = part.group(), opened[-1]
-        if raw.startswith("</"):
-            opened.pop()
-        elif raw.startswith("<"):
-            element = Node(False, part.start(), part.end(), [])
-            kids.append(element)
-            if not raw.endswith("/>"):
-                opened.append(element.kids)
-        elif len(opened) > 1:
-            kids.append(Node(True, part.start(), part.end(), []))
-    return top
-
-
-def node_at(nodes, place):
-    """The node to which the numbers lead, each counted from 1 among the children of the one before."""
-    found = None
-    for number in place:
-        if number > len(nodes):
-            return None
-        found = nodes[number - 1]
-        nodes = found.kids
-    return found
-
-
-def edited(text, place, begin, end, string):
-    """The reply to an edit of a text, and the document after it."""
-    node = node_at(nodes_of(text), place)
-    if node is None:
-        return "refused NoSuchPlace", text
-    if not node.is_text:
-        return "refused WrongKind", text
-    value = value_of(text[node.begin : node.end])
-    if end < begin or end > len(value):
-        return "refused BadRange", text
-    if not all(is_char(c) for c in string):
-        return "refused BadText", text
-    after = text[: node.begin] + escaped(value[:begin] + string + value[end:]) + text[node.end :]
-    if len(after.encode()) > MOST_FILE:
-        return "refused TooLarge", text
-    return "ok", after
-
-
-def printed(document, name):
-    """The printed tree, from Python's own XML parser; an error of it where the document is not well-formed."""
-
-    lines = io.BytesIO()
-    bench_open.Expected(document, name, lines)
-    return lines.getvalue()
+sys.path.insert(0, str(TOP / "bench"))  # for expected.py, which bench and fuzz share
 
 
 # Journals

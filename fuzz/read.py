@@ -146,9 +146,10 @@ def told_entity(data):
 
 
 def is_odd(data):
-    """Whether expat's answer says nothing: it takes any version, and has names of the fourth edition, without U+FEFF."""
+    """Whether expat's answer says nothing: it takes any version, has names of the fourth edition, without U+FEFF, and takes
+    colons in names where Namespaces in XML has none."""
     version = VERSION.match(data)
-    return (version and not re.fullmatch(rb"1\.[0-9]+", version.group(2))) or b"\xef\xbb\xbf" in data[1:]
+    return (version and not re.fullmatch(rb"1\.[0-9]+", version.group(2))) or b"\xef\xbb\xbf" in data[1:] or b":" in data
 
 
 def items_of(lines):
