@@ -46,7 +46,7 @@ impl Reader {
     }
 
     /// Goes on with an end-tag.
-    fn takes_end(&mut self, text: &str, token: Token) -> Result<(), Halt>
+    fn takes_end(&mut self, alloc: Global, text: &str, token: Token) -> Result<(), Halt>
         requires kind { token.kind ≡ kind.End }
         requires token { IsTokenAt text.now token }
         requires place { IsPlaced text.now self.old token.span.from }
@@ -54,7 +54,7 @@ impl Reader {
         ensures place { OnOk result (PlacesOn text.now self.old self.new token.span.from token.span.to) }
     {
         let name = read_end_name(text, token.span);
-        self.closes(text.as_bytes(), token.span, name)
+        self.closes(alloc, text.as_bytes(), token.span, name)
     }
 
     /// Goes on with character data.
@@ -158,7 +158,7 @@ impl Reader {
         match token.kind {
             Kind::Start => self.takes_start(alloc, text, token),
             Kind::Empty => self.takes_empty(alloc, text, token),
-            Kind::End => self.takes_end(text, token),
+            Kind::End => self.takes_end(alloc, text, token),
             Kind::Chars => self.takes_data(text, token),
             Kind::CharRef => self.takes_part(text, token),
             Kind::EntRef => self.takes_entity(text, token),

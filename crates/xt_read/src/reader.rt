@@ -20,7 +20,7 @@ use xt_tree::{Src, Tag};
 /// How many elements may be open.
 const MOST_LEVELS: usize = 128;
 
-/// How many items an element has room for at first.
+/// How many items an element has room for at first, where it holds another: mostly a text and that.
 const USUAL_KIDS: usize = 2;
 
 /// An element that is open, with the items before it.
@@ -96,6 +96,27 @@ impl Reader {
         }
     }
 
+    /// Takes room for so many items, where there are none yet.
+    fn make_room(&mut self, alloc: Global, count: usize) -> Result<(), AllocError>
+        ensures same { OnOk result (self.new ≡ self.old) }
+    {
+        if self.items.is_empty() {
+            self.items = Items::from_vec(Vec::with_capacity(alloc, count)?);
+        }
+        Ok(())
+    }
+
+    /// Takes room for a text that ends with its element. Most elements hold one text and nothing else, and a million of them
+    /// would leave room for a million items.
+    fn make_text_room(&mut self, alloc: Global) -> Result<(), AllocError>
+        ensures same { OnOk result (self.new ≡ self.old) }
+    {
+        if self.text.is_none() {
+            return Ok(());
+        }
+        self.make_room(alloc, 1)
+    }
+
     /// Whether nothing is left open.
     pub(crate) fn is_whole(&self) -> bool
         ensures opened { IsTrue result → self.now.opened.items ≡ [] }
@@ -123,8 +144,9 @@ impl Reader {
         if !self.may_begin() || !are_distinct(alloc, bytes, head.attrs.as_slice())? {
             return Err(Halt::Misplaced);
         }
+        self.make_room(alloc, USUAL_KIDS)?;
         self.settle()?;
-        let kids = Items::from_vec(Vec::with_capacity(alloc, USUAL_KIDS)?);
+        let kids = Items::new(alloc);
         let before = mem::replace(&mut self.items, kids);
         self.opened.push(Frame { head, before })?;
         self.stage = stage::behind_element(self.stage);
@@ -142,6 +164,7 @@ impl Reader {
         if !self.may_begin() || !are_distinct(alloc, bytes, head.attrs.as_slice())? {
             return Err(Halt::Misplaced);
         }
+        self.make_room(alloc, USUAL_KIDS)?;
         self.settle()?;
         let kids = Items::new(alloc);
         self.items.push(Src::Elem {
@@ -154,10 +177,17 @@ impl Reader {
     }
 
     /// The innermost element ends with its end-tag, which has this name.
-    pub(crate) fn closes(&mut self, bytes: &[u8], span: Span, name: Span) -> Result<(), Halt>
+    pub(crate) fn closes(
+        &mut self,
+        alloc: Global,
+        bytes: &[u8],
+        span: Span,
+        name: Span,
+    ) -> Result<(), Halt>
         ensures value { Gives (state_of bytes.now self.old) (end_tok (at_span bytes.now span) (at_span bytes.now name)) result (state_of bytes.now self.new) }
         ensures marks { OnOk result (all_marks self.new ≡ all_marks self.old ++ span_mark span ∷ []) }
     {
+        self.make_text_room(alloc)?;
         self.settle()?;
         let Some(Frame { head, before }) = self.opened.pop() else {
             return Err(Halt::Misplaced);
