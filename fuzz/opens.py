@@ -25,6 +25,7 @@ FALSE_BASES = [*made.BASES, "http://[", "http://a b/", "http:", "//", "http://a:
 # What others say of a document
 
 ODD_VERSION = re.compile(r"\ufeff?<\?xml\s+version\s*=\s*([\"'])(?!1\.[0-9]+\1)")
+DECLARED_TWICE = re.compile(r"(xmlns(?::[^\s=]+)?)\s*=[^<]*?\s\1\s*=")
 ENTITY = re.compile(f"&{documents.NCNAME};")
 
 
@@ -61,8 +62,8 @@ def compare_readers(rng, content, answer, home, counts):
         return
     text, expected = without_entities(content.decode()), kind != b"NotWellFormed"
     agrees("expat", documents.is_read_by_expat(text), expected, text, counts)
-    # libxml2 passes over declarations of `xml` before it looks for two attributes of one name.
-    if rng.random() < 0.1 and text.count("xmlns:xml") < 2:
+    # libxml2 passes over a declaration that isn't allowed before it looks for two attributes of one name.
+    if rng.random() < 0.1 and not DECLARED_TWICE.search(text):
         agrees("xmllint", is_read_by_xmllint(text, home), expected, text, counts)
     if kind in (b"", *NAMESPACE_FAULTS):
         compare_names(text, answer, counts)
@@ -120,7 +121,9 @@ def spoiled(rng, content):
     if rng.random() > 0.03:
         return content
     at = rng.randrange(len(content) + 1)
-    return content[:at] + bytes([rng.randrange(256)]) + content[at + rng.randint(0, 1) :]
+    after = content[:at] + bytes([rng.randrange(256)]) + content[at + rng.randint(0, 1) :]
+    # A character that stands in for another one before expat may not come in by chance.
+    return content if set(after.decode(errors="replace")) & set(map(chr, documents.STOOD_IN)) else after
 
 
 def documents_round(rng, home, program):
