@@ -50,3 +50,8 @@ opens_with file text bytes items nodes same (known, opens) are =
 
 pub same_open : (q r a b : List ℕ) (items : Items) (nodes : Nodes) → q ≡ r → a ≡ b → IsOpen r b items nodes → IsOpen q a items nodes
 same_open q r a b items nodes root bytes is = subst (λ (k : List ℕ). IsOpen k a items nodes) (sym root) (subst (λ (l : List ℕ). IsOpen r l items nodes) (sym bytes) is)
+
+-- the same bytes open with the same items and nodes
+pub same_opened : (q r a b : List ℕ) (i j : List Src) (nodes : Nodes) → q ≡ r → a ≡ b → i ≡ j → IsOpen r b (items_in b j) nodes → IsOpen q a (items_in a i) nodes
+same_opened q r a b i j nodes root bytes items is =
+    same_open q r a b (items_in a i) nodes root bytes (subst (λ (l : List ℕ). IsOpen r b (items_in l i) nodes) (sym bytes) (subst (λ (k : List Src). IsOpen r b (items_in b k) nodes) (sym items) is))
