@@ -179,7 +179,11 @@ fn a_whole_document_opens(rt: HostRuntime) -> Result<(), Fail> {
         assert_eq!(rt; session.bytes(), root.as_bytes());
         edit(alloc, &mut session, script)?;
         let opened = session.into_opened()?;
-        assert_eq!(rt; counted(opened.nodes.as_slice()), (at_top, held), "at {root}");
+        assert_eq!(rt;
+            counted(opened.nodes.as_slice()),
+            (at_top, held),
+            "at {root}"
+        );
     }
     Ok(())
 }
