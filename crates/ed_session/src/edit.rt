@@ -81,7 +81,7 @@ fn value_of(alloc: Global, text: &[u8]) -> Result<String, AllocError>
     ensures value { IsTextItem text.now → IfOk result (λ value. HasTextValue text.now (string_bytes value)) }
 {
     match std::str::from_utf8(text) {
-        Ok(text) => text_value(alloc, text),
+        Ok(text) => text_value(alloc, text, false),
         Err(_) => Err(AllocError),
     }
 }

@@ -32,7 +32,7 @@ pub(crate) fn text_node(
     ensures paths { IfOk result (λ node. (outer : List ℕ) (index : ℕ) (rest : Items) → address.path ≡ path_below outer index → HasPaths outer index (leaf text_item (at_span source.now.text.now span) rest) rest (suc index) (some_node node)) }
     ensures fault { IfErr result (λ fault. (context : Context) (rest : Items) → GivesFault source.now.file.now context (leaf text_item (at_span source.now.text.now span) rest) work.old.count fault) }
 {
-    let value = Txt::from_string(text_value(alloc, source.text_at(span)?)?);
+    let value = Txt::from_string(text_value(alloc, source.text_at(span)?, false)?);
     if value.len() == 0 {
         return Ok(None);
     }

@@ -33,23 +33,23 @@ pub(crate) fn are_chars(text: &str) -> bool
     are_sound_bytes(text.as_bytes()) || has_chars(text)
 }
 
-/// How many bytes at the front are Chars.
-fn chars_len(text: &str) -> usize
-    ensures { AreFirstChars text.now result }
-{
-    if are_sound_bytes(text.as_bytes()) {
-        text.len()
-    } else {
-        found_chars_len(text)
-    }
-}
-
 fn found_chars_len(text: &str) -> usize
     ensures { AreFirstChars text.now result }
 {
     match text.find(|c: char| !is_char(c)) {
         Some(n) => n,
         None => text.len(),
+    }
+}
+
+/// How many bytes stand before the first character that is no Char: all, where each is one. XML 1.0 (Fifth Edition), 2.2.
+pub fn chars_len(text: &str) -> usize
+    ensures value { AreFirstChars text.now result }
+{
+    if are_sound_bytes(text.as_bytes()) {
+        text.len()
+    } else {
+        found_chars_len(text)
     }
 }
 

@@ -1,11 +1,8 @@
 //! A file that is included as a text: characters alone, behind a byte order mark.
 
 ghost use Rattle.std.specs.Prelude.{◌≡◌, ◌<◌, ◌≤◌, ◌^◌, ℕ, List, length, IfOk, IfErr};
-ghost use Rattle.std.specs.List.{list_all};
 ghost use Rattle.xt_spec.specs.Tree.{source_text};
 ghost use Rattle.xt_spec.specs.Reading.{plain_text, IsOrdered};
-ghost use Rattle.xt_lex.specs.Data.{AreFirstChars};
-ghost use Rattle.xt_lex.specs.Fast.{is_sound_byte};
 ghost use Rattle.xt_tree.specs.Meaning.{items_in};
 ghost use Rattle.xt_tree.specs.Places.{marks_of, AreInPlace};
 ghost use Rattle.xt_read.specs.FrontSteps.{one_text_items, one_text_marks};
@@ -15,46 +12,8 @@ use crate::front::mark_len;
 use crate::unread::Unread;
 use sqlite_items::Items;
 use std::alloc::{AllocError, Global};
-use xt_lex::{Span, is_char};
+use xt_lex::{Span, chars_len};
 use xt_tree::Src;
-
-/// Whether characters of such bytes alone are Chars: no control, and not the first byte of U+FFFE and U+FFFF.
-fn is_sound_byte(b: u8) -> bool
-    ensures { result ≡ is_sound_byte b }
-{
-    (0x20 <= b) & (b != 0xEF) | (b == b'\t') | (b == b'\n') | (b == b'\r')
-}
-
-/// A fast test, which most texts pass. It has no early end, so that many bytes are tested at a time.
-fn are_sound_bytes(bytes: &[u8]) -> bool
-    ensures { result ≡ list_all is_sound_byte bytes.now }
-{
-    let mut sound = true;
-    for b in bytes {
-        sound &= is_sound_byte(*b);
-    }
-    sound
-}
-
-fn found_chars_len(text: &str) -> usize
-    ensures { AreFirstChars text.now result }
-{
-    match text.find(|c: char| !is_char(c)) {
-        Some(n) => n,
-        None => text.len(),
-    }
-}
-
-/// How many bytes stand before the first character that is no Char.
-fn chars_len(text: &str) -> usize
-    ensures { AreFirstChars text.now result }
-{
-    if are_sound_bytes(text.as_bytes()) {
-        text.len()
-    } else {
-        found_chars_len(text)
-    }
-}
 
 /// The gap of a byte order mark of so many bytes, and the text from there to the end.
 fn one_text_items(alloc: Global, mark: usize, len: usize) -> Result<Items<Src>, AllocError>

@@ -4,7 +4,7 @@ use Rattle.xt_spec.specs.Tree.{Items, nil, element, leaf, text_item, leaf_item}
 use Rattle.xt_spec.specs.Escape.{escape_text}
 use Rattle.xt_spec.specs.Paths.{item_at}
 use Rattle.xt_spec.specs.LineEnds.{lines_read}
-use Rattle.xt_spec.specs.Text.{is_void}
+use Rattle.xt_spec.specs.Text.{TextPart, data_part, section_part, parts_value_in, is_void}
 use Rattle.xt_spec.specs.Value.{tokenized}
 use Rattle.xt_spec.specs.Namespace.{NamedValue, Binding, xml_namespace, xmlns_namespace, prefix_of, local_of, declared_prefix, is_allowed, xml_scope, scope_of, Expanded, expanded_name}
 
@@ -44,6 +44,18 @@ finds_nothing_in_a_text = refl
 
 reads_line_ends : lines_read (0xD ∷ 0xA ∷ 0xD ∷ 0x61 ∷ 0xA ∷ []) ≡ 0xA ∷ 0xA ∷ 0x61 ∷ 0xA ∷ []
 reads_line_ends = refl
+
+-- a CR LF, and a CR in a CDATA section
+parts : List TextPart
+parts = data_part (0x61 ∷ 0xD ∷ 0xA ∷ []) ∷ section_part (codes "<![CDATA[" ++ 0xD ∷ codes "]]>") (0xD ∷ []) ∷ []
+
+reads_line_ends_of_a_file : parts_value_in false parts ≡ 0x61 ∷ 0xA ∷ 0xA ∷ []
+unfolding parts
+reads_line_ends_of_a_file = refl
+
+keeps_line_ends_of_a_replacement_text : parts_value_in true parts ≡ 0x61 ∷ 0xD ∷ 0xA ∷ 0xD ∷ []
+unfolding parts
+keeps_line_ends_of_a_replacement_text = refl
 
 void_sections : is_void (codes "<![CDATA[]]><![CDATA[]]>") ≡ true
 void_sections = refl

@@ -1,5 +1,5 @@
 -- Items give one content.
-use Rattle.std.proofs.Common.{◌≡◌, ◌∙◌, ℕ, List, [], ◌∷◌, ◌++◌, Option, None, Some, inl, inr, refl, sym, ap, subst, codes}
+use Rattle.std.proofs.Common.{false, ◌≡◌, ◌∙◌, ℕ, List, [], ◌∷◌, ◌++◌, Option, None, Some, inl, inr, refl, sym, ap, subst, codes}
 use Rattle.std.proofs.lemmas.List.{append_cancel_left, append_cancel_right}
 use Rattle.xt_spec.specs.Char.{is_space}
 use Rattle.xt_spec.specs.Tag.{Attribute, Tag}
@@ -50,7 +50,7 @@ content_unique (element open_tag kids close rest) a b (tag, values, inner, other
     ∙ ap (λ (c : Content). element_content tag_b.name values_b c others) (content_unique kids inner inner_b has_inner has_inner_b)
     ∙ ap (λ (c : Content). element_content tag_b.name values_b inner_b c) (content_unique rest others others_b has_others has_others_b) ∙ sym is_b
 content_unique (leaf text_item text rest) a b (value, others, has, has_others, is) (value_b, others_b, has_b, has_others_b, is_b) =
-    is ∙ ap (λ (v : List ℕ). text_content v others) (text_value_unique text value value_b has has_b)
+    is ∙ ap (λ (v : List ℕ). text_content v others) (text_value_unique false text value value_b has has_b)
     ∙ ap (λ (c : Content). text_content value_b c) (content_unique rest others others_b has_others has_others_b) ∙ sym is_b
 content_unique (leaf comment_item text rest) a b (inner, others, has, has_others, is) (inner_b, others_b, has_b, has_others_b, is_b) =
     is ∙ ap (λ (l : List ℕ). comment_content (lines_read l) others) (comment_unique text inner inner_b has has_b)

@@ -11,8 +11,7 @@ use Rattle.std.specs.Str.{NonePass, NoCharPasses}
 use Rattle.xt_spec.specs.Reference.{StandsFor}
 use Rattle.xt_spec.specs.Markup.{IsSectionOf}
 use Rattle.xt_spec.specs.Token.{IsPlain, Spells, char_data}
-use Rattle.xt_spec.specs.Text.{TextPart, data_part, reference_part, section_part, parts_text, parts_value, begins_with_data, AreTextParts, HasTextValue}
-use Rattle.xt_spec.specs.LineEnds.{lines_read}
+use Rattle.xt_spec.specs.Text.{TextPart, data_part, reference_part, section_part, parts_text, characters_in, parts_value_in, begins_with_data, AreTextParts, HasValueIn}
 use Rattle.xt_value.specs.Parts.{is_mark, lacks_all, Stops, Adds, PutsReference, PutsSection, PutsData}
 use Rattle.xt_value.proofs.References.{wrapped}
 
@@ -100,10 +99,10 @@ pub add : (old piece others new : List ℕ) → new ≡ old ++ piece → old ++ 
 add old piece others new is = sym (append_assoc old piece others) ∙ ap (λ (l : List ℕ). l ++ others) (sym is)
 
 -- what begins with `&` begins with a reference
-pub reference_adds : (text rest old new behind : List ℕ) → text ≡ 0x26 ∷ behind → PutsReference text rest old new → Adds HasTextValue text rest old new
-reference_adds text rest old new behind begins puts value (parts, are, spell, value_is) = by parts are spell value_is
+pub reference_adds : (inner : Bool) (text rest old new behind : List ℕ) → text ≡ 0x26 ∷ behind → PutsReference text rest old new → Adds (HasValueIn inner) text rest old new
+reference_adds inner text rest old new behind begins puts value (parts, are, spell, value_is) = by parts are spell value_is
   where
-    by : (parts : List TextPart) → AreTextParts parts → parts_text parts ≡ text → parts_value parts ≡ value → (others : List ℕ) × HasTextValue rest others × (old ++ value ≡ new ++ others)
+    by : (parts : List TextPart) → AreTextParts parts → parts_text parts ≡ text → parts_value_in inner parts ≡ value → (others : List ℕ) × HasValueIn inner rest others × (old ++ value ≡ new ++ others)
     by [] are spell value_is = let bad = spell ∙ begins in absurd (cc)
     by (data_part front ∷ parts) are spell value_is =
         let b = data_begins front (parts_text parts) are.0 in
@@ -111,16 +110,16 @@ reference_adds text rest old new behind begins puts value (parts, are, spell, va
         absurd (marked b.first (ap is_mark (sym same)) b.plain)
     by (reference_part reference c ∷ parts) are spell value_is =
         let put = puts reference (parts_text parts) c are.0 (sym spell) in
-        (parts_value parts, (parts, are.1, sym put.0, refl), ap (λ (l : List ℕ). old ++ l) (sym value_is) ∙ add old (encode_utf8 c) (parts_value parts) new put.1)
-    by (section_part section inner ∷ parts) are spell value_is =
-        let (others, starts) = section_begins section inner (parts_text parts) are.0 in
+        (parts_value_in inner parts, (parts, are.1, sym put.0, refl), ap (λ (l : List ℕ). old ++ l) (sym value_is) ∙ add old (encode_utf8 c) (parts_value_in inner parts) new put.1)
+    by (section_part section content ∷ parts) are spell value_is =
+        let (others, starts) = section_begins section content (parts_text parts) are.0 in
         absurd (apart (differ text 0x26 0x3C behind others begins (sym spell ∙ starts)))
 
 -- .. with `<`, a CDATA section
-pub section_adds : (text rest old new behind : List ℕ) → text ≡ 0x3C ∷ behind → PutsSection text rest old new → Adds HasTextValue text rest old new
-section_adds text rest old new behind begins puts value (parts, are, spell, value_is) = by parts are spell value_is
+pub section_adds : (inner : Bool) (text rest old new behind : List ℕ) → text ≡ 0x3C ∷ behind → PutsSection inner text rest old new → Adds (HasValueIn inner) text rest old new
+section_adds inner text rest old new behind begins puts value (parts, are, spell, value_is) = by parts are spell value_is
   where
-    by : (parts : List TextPart) → AreTextParts parts → parts_text parts ≡ text → parts_value parts ≡ value → (others : List ℕ) × HasTextValue rest others × (old ++ value ≡ new ++ others)
+    by : (parts : List TextPart) → AreTextParts parts → parts_text parts ≡ text → parts_value_in inner parts ≡ value → (others : List ℕ) × HasValueIn inner rest others × (old ++ value ≡ new ++ others)
     by [] are spell value_is = let bad = spell ∙ begins in absurd (cc)
     by (data_part front ∷ parts) are spell value_is =
         let b = data_begins front (parts_text parts) are.0 in
@@ -129,25 +128,25 @@ section_adds text rest old new behind begins puts value (parts, are, spell, valu
     by (reference_part reference c ∷ parts) are spell value_is =
         let (others, starts) = reference_begins reference c (parts_text parts) are.0 in
         absurd (apart (sym (differ text 0x3C 0x26 behind others begins (sym spell ∙ starts))))
-    by (section_part section inner ∷ parts) are spell value_is =
-        let put = puts section inner (parts_text parts) are.0 (sym spell) in
-        (parts_value parts, (parts, are.1, sym put.0, refl), ap (λ (l : List ℕ). old ++ l) (sym value_is) ∙ add old (lines_read inner) (parts_value parts) new put.1)
+    by (section_part section content ∷ parts) are spell value_is =
+        let put = puts section content (parts_text parts) are.0 (sym spell) in
+        (parts_value_in inner parts, (parts, are.1, sym put.0, refl), ap (λ (l : List ℕ). old ++ l) (sym value_is) ∙ add old (characters_in inner content) (parts_value_in inner parts) new put.1)
 
 -- .. with another byte, character data, which goes on to the next `&` or `<`
-pub data_adds : (text rest old new : List ℕ) (b : ℕ) (behind : List ℕ) → text ≡ b ∷ behind → is_mark b ≡ false → PutsData text rest old new → Adds HasTextValue text rest old new
-data_adds text rest old new b behind begins plain puts value (parts, are, spell, value_is) = by parts are spell value_is
+pub data_adds : (inner : Bool) (text rest old new : List ℕ) (b : ℕ) (behind : List ℕ) → text ≡ b ∷ behind → is_mark b ≡ false → PutsData inner text rest old new → Adds (HasValueIn inner) text rest old new
+data_adds inner text rest old new b behind begins plain puts value (parts, are, spell, value_is) = by parts are spell value_is
   where
-    by : (parts : List TextPart) → AreTextParts parts → parts_text parts ≡ text → parts_value parts ≡ value → (others : List ℕ) × HasTextValue rest others × (old ++ value ≡ new ++ others)
+    by : (parts : List TextPart) → AreTextParts parts → parts_text parts ≡ text → parts_value_in inner parts ≡ value → (others : List ℕ) × HasValueIn inner rest others × (old ++ value ≡ new ++ others)
     by [] are spell value_is = let bad = spell ∙ begins in absurd (cc)
     by (data_part front ∷ parts) are spell value_is =
         let put = puts front (parts_text parts) (data_lacks front are.0) (parts_stop parts are.2 are.1) (sym spell) in
-        (parts_value parts, (parts, are.2, sym put.0, refl), ap (λ (l : List ℕ). old ++ l) (sym value_is) ∙ add old (lines_read front) (parts_value parts) new put.1)
+        (parts_value_in inner parts, (parts, are.2, sym put.0, refl), ap (λ (l : List ℕ). old ++ l) (sym value_is) ∙ add old (characters_in inner front) (parts_value_in inner parts) new put.1)
     by (reference_part reference c ∷ parts) are spell value_is =
         let (others, starts) = reference_begins reference c (parts_text parts) are.0 in
         let same : b ≡ 0x26 = differ text b 0x26 behind others begins (sym spell ∙ starts) in
         absurd (marked b (ap is_mark same) plain)
-    by (section_part section inner ∷ parts) are spell value_is =
-        let (others, starts) = section_begins section inner (parts_text parts) are.0 in
+    by (section_part section content ∷ parts) are spell value_is =
+        let (others, starts) = section_begins section content (parts_text parts) are.0 in
         let same : b ≡ 0x3C = differ text b 0x3C behind others begins (sym spell ∙ starts) in
         absurd (marked b (ap is_mark same) plain)
 
@@ -171,18 +170,18 @@ pub adds_nothing : (Has : List ℕ → List ℕ → Type 0) (text old new : List
 adds_nothing Has text old new same value has = (value, has, ap (λ (l : List ℕ). l ++ value) (sym same))
 
 -- nothing has no value but the empty one
-pub value_end : (value : List ℕ) → HasTextValue [] value → value ≡ []
-value_end value (parts, are, spell, is) = sym is ∙ by parts are spell
+pub value_end : (inner : Bool) (value : List ℕ) → HasValueIn inner [] value → value ≡ []
+value_end inner value (parts, are, spell, is) = sym is ∙ by parts are spell
   where
-    by : (parts : List TextPart) → AreTextParts parts → parts_text parts ≡ [] → parts_value parts ≡ []
+    by : (parts : List TextPart) → AreTextParts parts → parts_text parts ≡ [] → parts_value_in inner parts ≡ []
     by [] are spell = refl
     by (data_part text ∷ parts) are spell = let b = data_begins text (parts_text parts) are.0 in let bad = sym spell ∙ b.begins in absurd (cc)
     by (reference_part text c ∷ parts) are spell =
         let (behind, begins) = reference_begins text c (parts_text parts) are.0 in
         let bad = sym spell ∙ begins in
         absurd (cc)
-    by (section_part text inner ∷ parts) are spell =
-        let (behind, begins) = section_begins text inner (parts_text parts) are.0 in
+    by (section_part text content ∷ parts) are spell =
+        let (behind, begins) = section_begins text content (parts_text parts) are.0 in
         let bad = sym spell ∙ begins in
         absurd (cc)
 
@@ -198,5 +197,5 @@ value_whole Has text rest out ends adds none value has =
     is ∙ ap (λ (l : List ℕ). out ++ l) nothing ∙ append-nil out
 
 -- the value that the parts of an item have
-pub value_is : (text out : List ℕ) (parts : List TextPart) → AreTextParts parts → parts_text parts ≡ text → ((value : List ℕ) → HasTextValue text value → value ≡ out) → HasTextValue text out
-value_is text out parts are spell is = (parts, are, spell, is (parts_value parts) (parts, are, spell, refl))
+pub value_is : (inner : Bool) (text out : List ℕ) (parts : List TextPart) → AreTextParts parts → parts_text parts ≡ text → ((value : List ℕ) → HasValueIn inner text value → value ≡ out) → HasValueIn inner text out
+value_is inner text out parts are spell is = (parts, are, spell, is (parts_value_in inner parts) (parts, are, spell, refl))

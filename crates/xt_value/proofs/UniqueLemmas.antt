@@ -1,9 +1,9 @@
 -- A text item and an attribute have one value.
-use Rattle.std.proofs.Common.{◌≡◌, ◌∙◌, ℕ, List, [], ◌∷◌, ◌++◌, true, map, inr, refl, sym, ap, subst, codes, append_assoc, encode_utf8}
+use Rattle.std.proofs.Common.{◌≡◌, ◌∙◌, ℕ, Bool, List, [], ◌∷◌, ◌++◌, true, map, inr, refl, sym, ap, subst, codes, append_assoc, encode_utf8}
 use Rattle.std.proofs.lemmas.List.{append_cancel_left, append_cancel_right}
 use Rattle.xt_spec.specs.Reference.{StandsFor}
 use Rattle.xt_spec.specs.Markup.{IsSectionOf}
-use Rattle.xt_spec.specs.Text.{TextPart, data_part, reference_part, section_part, parts_text, parts_value, AreTextParts, HasTextValue}
+use Rattle.xt_spec.specs.Text.{TextPart, data_part, reference_part, section_part, parts_text, characters_in, parts_value_in, AreTextParts, HasValueIn}
 use Rattle.xt_spec.specs.LineEnds.{lines_read}
 use Rattle.xt_spec.specs.Value.{ValuePart, characters_part, character_part, value_parts_text, value_of_parts, AreValueParts, HasAttributeValue, spaced}
 use Rattle.xt_lex.proofs.Theorems.{stands_unique}
@@ -33,10 +33,10 @@ puts_reference reference rest c stands other behind d is same =
     let fronts = reference_same reference other rest behind c d stands is same in
     (fronts.1, ap encode_utf8 (stands_unique other c d (subst (λ (l : List ℕ). StandsFor l c) fronts.0 stands) is))
 
-puts_data : (front rest : List ℕ) → lacks_all is_mark front ≡ true → Stops is_mark rest → PutsData (front ++ rest) rest [] (lines_read front)
-puts_data front rest lacks stops other behind lack stop same =
+puts_data : (inner : Bool) (front rest : List ℕ) → lacks_all is_mark front ≡ true → Stops is_mark rest → PutsData inner (front ++ rest) rest [] (characters_in inner front)
+puts_data inner front rest lacks stops other behind lack stop same =
     let fronts = cut_unique is_mark front other rest behind lacks lack stops stop same in
-    (fronts.1, ap lines_read fronts.0)
+    (fronts.1, ap (characters_in inner) fronts.0)
 
 puts_characters : (front rest : List ℕ) → lacks_all is_ampersand front ≡ true → Stops is_ampersand rest → PutsCharacters (front ++ rest) rest [] (map spaced (lines_read front))
 puts_characters front rest lacks stops other behind lack stop same =
@@ -53,32 +53,32 @@ section_same text x y i j r s first second left right =
     let same : ◌≡◌ {A = List ℕ × List ℕ} (i, r) (j, s) = cc in
     (ap (λ p. p.0) same, ap (λ p. p.1) same)
 
-puts_section : (section inner rest : List ℕ) → IsSectionOf section inner → PutsSection (section ++ rest) rest [] (lines_read inner)
-puts_section section inner rest is other characters behind also same =
-    let fronts = section_same (section ++ rest) section other inner characters rest behind is also refl same in
-    (fronts.1, ap lines_read fronts.0)
+puts_section : (inner : Bool) (section content rest : List ℕ) → IsSectionOf section content → PutsSection inner (section ++ rest) rest [] (characters_in inner content)
+puts_section inner section content rest is other characters behind also same =
+    let fronts = section_same (section ++ rest) section other content characters rest behind is also refl same in
+    (fronts.1, ap (characters_in inner) fronts.0)
 
 -- so parts have one value
 
-parts_value_is : (list : List TextPart) → AreTextParts list → (value : List ℕ) → HasTextValue (parts_text list) value → value ≡ parts_value list
-parts_value_is [] are value has = parts.value_end value has
-parts_value_is (data_part text ∷ list) are value has =
+parts_value_is : (inner : Bool) (list : List TextPart) → AreTextParts list → (value : List ℕ) → HasValueIn inner (parts_text list) value → value ≡ parts_value_in inner list
+parts_value_is inner [] are value has = parts.value_end inner value has
+parts_value_is inner (data_part text ∷ list) are value has =
     let b = data_begins text (parts_text list) are.0 in
-    let puts = puts_data text (parts_text list) (data_lacks text are.0) (parts_stop list are.2 are.1) in
-    let (others, has_others, is) = parts.data_adds (text ++ parts_text list) (parts_text list) [] (lines_read text) b.first b.behind b.begins b.plain puts value has in
-    is ∙ ap (λ (l : List ℕ). lines_read text ++ l) (parts_value_is list are.2 others has_others)
-parts_value_is (reference_part text c ∷ list) are value has =
+    let puts = puts_data inner text (parts_text list) (data_lacks text are.0) (parts_stop list are.2 are.1) in
+    let (others, has_others, is) = parts.data_adds inner (text ++ parts_text list) (parts_text list) [] (characters_in inner text) b.first b.behind b.begins b.plain puts value has in
+    is ∙ ap (λ (l : List ℕ). characters_in inner text ++ l) (parts_value_is inner list are.2 others has_others)
+parts_value_is inner (reference_part text c ∷ list) are value has =
     let (behind, begins) = reference_begins text c (parts_text list) are.0 in
-    let (others, has_others, is) = parts.reference_adds (text ++ parts_text list) (parts_text list) [] (encode_utf8 c) behind begins (puts_reference text (parts_text list) c are.0) value has in
-    is ∙ ap (λ (l : List ℕ). encode_utf8 c ++ l) (parts_value_is list are.1 others has_others)
-parts_value_is (section_part text inner ∷ list) are value has =
-    let (behind, begins) = parts.section_begins text inner (parts_text list) are.0 in
-    let (others, has_others, is) = parts.section_adds (text ++ parts_text list) (parts_text list) [] (lines_read inner) behind begins (puts_section text inner (parts_text list) are.0) value has in
-    is ∙ ap (λ (l : List ℕ). lines_read inner ++ l) (parts_value_is list are.1 others has_others)
+    let (others, has_others, is) = parts.reference_adds inner (text ++ parts_text list) (parts_text list) [] (encode_utf8 c) behind begins (puts_reference text (parts_text list) c are.0) value has in
+    is ∙ ap (λ (l : List ℕ). encode_utf8 c ++ l) (parts_value_is inner list are.1 others has_others)
+parts_value_is inner (section_part text content ∷ list) are value has =
+    let (behind, begins) = parts.section_begins text content (parts_text list) are.0 in
+    let (others, has_others, is) = parts.section_adds inner (text ++ parts_text list) (parts_text list) [] (characters_in inner content) behind begins (puts_section inner text content (parts_text list) are.0) value has in
+    is ∙ ap (λ (l : List ℕ). characters_in inner content ++ l) (parts_value_is inner list are.1 others has_others)
 
-pub text_value_unique : (text a b : List ℕ) → HasTextValue text a → HasTextValue text b → a ≡ b
-text_value_unique text a b (list, are, spelled, is) has =
-    sym (parts_value_is list are b (subst (λ (l : List ℕ). HasTextValue l b) (sym spelled) has) ∙ is)
+pub text_value_unique : (inner : Bool) (text a b : List ℕ) → HasValueIn inner text a → HasValueIn inner text b → a ≡ b
+text_value_unique inner text a b (list, are, spelled, is) has =
+    sym (parts_value_is inner list are b (subst (λ (l : List ℕ). HasValueIn inner l b) (sym spelled) has) ∙ is)
 
 raw_value_is : (q : ℕ) (list : List ValuePart) → AreValueParts q list → (value : List ℕ) → HasRawValue q (value_parts_text list) value → value ≡ value_of_parts list
 raw_value_is q [] are value has = values.raw_end q value has

@@ -10,6 +10,7 @@ use Rattle.std.specs.List.{list_all}
 use Rattle.xt_spec.specs.Reference.{StandsFor}
 use Rattle.xt_spec.specs.LineEnds.{lines_read}
 use Rattle.xt_spec.specs.Markup.{IsSectionOf}
+use Rattle.xt_spec.specs.Text.{characters_in}
 use Rattle.xt_spec.specs.Value.{ValuePart, AreValueParts, value_parts_text, value_of_parts, spaced}
 
 abbrev pub is_semicolon : ℕ → Bool
@@ -60,15 +61,15 @@ abbrev pub PutsReference : List ℕ → List ℕ → List ℕ → List ℕ → T
 PutsReference text rest old new = (reference behind : List ℕ) (c : ℕ) → StandsFor reference c → text ≡ reference ++ behind
     → (rest ≡ behind) × (new ≡ old ++ encode_utf8 c)
 
--- .. or the CDATA section
-abbrev pub PutsSection : List ℕ → List ℕ → List ℕ → List ℕ → Type 0
-PutsSection text rest old new = (section inner behind : List ℕ) → IsSectionOf section inner → text ≡ section ++ behind
-    → (rest ≡ behind) × (new ≡ old ++ lines_read inner)
+-- .. or the CDATA section, of a file or of a replacement text
+abbrev pub PutsSection : (inner : Bool) → List ℕ → List ℕ → List ℕ → List ℕ → Type 0
+PutsSection inner text rest old new = (section content behind : List ℕ) → IsSectionOf section content → text ≡ section ++ behind
+    → (rest ≡ behind) × (new ≡ old ++ characters_in inner content)
 
 -- .. or the characters of content that stand for themselves
-abbrev pub PutsData : List ℕ → List ℕ → List ℕ → List ℕ → Type 0
-PutsData text rest old new = (front behind : List ℕ) → lacks_all is_mark front ≡ true → Stops is_mark behind → text ≡ front ++ behind
-    → (rest ≡ behind) × (new ≡ old ++ lines_read front)
+abbrev pub PutsData : (inner : Bool) → List ℕ → List ℕ → List ℕ → List ℕ → Type 0
+PutsData inner text rest old new = (front behind : List ℕ) → lacks_all is_mark front ≡ true → Stops is_mark behind → text ≡ front ++ behind
+    → (rest ≡ behind) × (new ≡ old ++ characters_in inner front)
 
 -- .. or those of an attribute value
 abbrev pub PutsCharacters : List ℕ → List ℕ → List ℕ → List ℕ → Type 0

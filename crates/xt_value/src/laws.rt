@@ -1,13 +1,13 @@
 //! Laws of values and content, each a clause of a function that does nothing.
-ghost use Rattle.std.specs.Prelude.{◌≡◌, ◌↔◌, List, ℕ, [], true};
+ghost use Rattle.std.specs.Prelude.{◌≡◌, ◌↔◌, List, ℕ, [], Bool, true};
 ghost use Rattle.xt_spec.specs.Tree.{Items};
-ghost use Rattle.xt_spec.specs.Text.{HasTextValue, is_void};
+ghost use Rattle.xt_spec.specs.Text.{HasValueIn, HasTextValue, is_void};
 ghost use Rattle.xt_spec.specs.Value.{HasAttributeValue};
 ghost use Rattle.xt_spec.specs.Content.{Content, HasContent};
 
-/// A text item has at most one value.
+/// A text item has at most one value, in a file and in a replacement text.
 pub fn one_text_value()
-    ensures law { (text a b : List ℕ) → HasTextValue text a → HasTextValue text b → a ≡ b }
+    ensures law { (inner : Bool) (text a b : List ℕ) → HasValueIn inner text a → HasValueIn inner text b → a ≡ b }
 {}
 
 /// An attribute has at most one value.

@@ -27,8 +27,16 @@ fn items_have_their_values(rt: HostRuntime) -> Result<(), Fail> {
         ("<![CDATA[a\r\n]]>\n<![CDATA[\r]]>\n", "a\n\n\n\n"),
         ("&lt;<![CDATA[&]]>é", "<&é"),
     ] {
-        let found = text_value(alloc, item)?;
+        let found = text_value(alloc, item, false)?;
         assert_eq!(rt; found.as_str(), value, "at {item}");
+    }
+    for (item, value) in [
+        ("a\r\nb\rc", "a\r\nb\rc"),
+        ("&#13;\n<![CDATA[a\r\n]]>\r&lt;", "\r\na\r\n\r<"),
+        ("a&#38;&amp;b", "a&&b"),
+    ] {
+        let found = text_value(alloc, item, true)?;
+        assert_eq!(rt; found.as_str(), value, "of a replacement text at {item}");
     }
     Ok(())
 }

@@ -7,4 +7,4 @@ use Rattle.xt_lex.proofs.data.chars_len.Goals as goal
 pub returns-then-are_sound_bytes : goal.returns-then-are_sound_bytes
 returns-then-are_sound_bytes c =
     let sound : list_all is_sound_byte c.args.text.now ≡ true = rw c.as_bytes.ensures.value at (sym c.are_sound_bytes.ensures ∙ c.if-are_sound_bytes.true) in
-    sound_first_chars c.args.text.now c.utf8.text sound
+    record { value = sound_first_chars c.args.text.now c.utf8.text sound }

@@ -21,4 +21,4 @@ returns c =
     front_data text c.range-front.result.now c.range.result.now c.delimiter_at.result c.close_at-end.result c.chars_len.result front inner
     (rw c.as_bytes.ensures.value at c.delimiter_at.ensures)
     (rw c.as_bytes-3.ensures.value at c.close_at-end.ensures)
-    c.chars_len.ensures
+    c.chars_len.ensures.value

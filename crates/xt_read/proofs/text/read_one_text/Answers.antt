@@ -13,7 +13,7 @@ returns-then-at-text-clause-fault c =
     let text = c.args.text.now in
     let short : c.mark_len-mark.result + c.chars_len.result ≢ length text = grind (arith, nat_tests) in
     no_char_behind text c.mark_len-mark.result c.chars_len.result c.utf8.text c.mark_len-mark.ensures.value c.mark_len-mark.ensures.within
-    (subst (λ (t : List ℕ). AreFirstChars t c.chars_len.result) c.range_from.ensures.value c.chars_len.ensures) short
+    (subst (λ (t : List ℕ). AreFirstChars t c.chars_len.result) c.range_from.ensures.value c.chars_len.ensures.value) short
 
 pub returns-in-Ok-clause-value : goal.returns-in-Ok-clause-value
 returns-in-Ok-clause-value c =
@@ -22,4 +22,4 @@ returns-in-Ok-clause-value c =
     let whole : mark + c.chars_len.result ≡ length text = grind (arith, nat_tests) in
     let same : items_in text c.in-Ok.items ≡ one_text_items text mark (length text) = c.in-Ok.ensures.value text ∙ ap (one_text_items text mark) whole in
     subst (λ (i : Items). IsOrdered plain_text i × (source_text i ≡ text)) (sym same)
-    (one_text_reads text mark c.chars_len.result c.mark_len-mark.ensures.value c.mark_len-mark.ensures.within (subst (λ (t : List ℕ). AreFirstChars t c.chars_len.result) c.range_from.ensures.value c.chars_len.ensures) whole)
+    (one_text_reads text mark c.chars_len.result c.mark_len-mark.ensures.value c.mark_len-mark.ensures.within (subst (λ (t : List ℕ). AreFirstChars t c.chars_len.result) c.range_from.ensures.value c.chars_len.ensures.value) whole)
