@@ -1,16 +1,22 @@
 //! Expanded names that many nodes share.
 ghost use Rattle.std.specs.Prelude.{◌≡◌, [], unwrap_or, IfOk};
 
-use std::alloc::AllocError;
+use std::alloc::{AllocError, Global};
 use std::marker::Model;
-use xt_table::SharedText;
+use xt_table::{Shared, SharedText};
 
-/// An expanded name: the name of its namespace, empty where it has none, and its local name.
 #[derive(Debug, Drop)]
-pub struct NodeName {
+struct NameData {
     /// None where it has no namespace.
     space: Option<SharedText>,
     local: SharedText,
+}
+
+/// An expanded name: the name of its namespace, empty where it has none, and its local name. Both stand in one block, so
+/// that a node or an attribute pays for one pointer.
+#[derive(Debug, Drop)]
+pub struct NodeName {
+    data: Shared<NameData>,
 }
 
 impl Model for NodeName {
@@ -19,22 +25,28 @@ impl Model for NodeName {
 
     ghost Value = { Expanded };
 
-    ghost view = { λ n. record { space = unwrap_or n.space []; local = n.local } };
+    ghost view = { λ n. record { space = unwrap_or n.data.space []; local = n.data.local } };
 }
 
 impl NodeName {
-    /// The name of this namespace, or of none, and this local name; no memory is taken.
-    pub fn new(space: Option<SharedText>, local: SharedText) -> NodeName
-        ensures value { result ≡ record { space = unwrap_or space []; local = local } }
+    /// The name of this namespace, or of none, and this local name. The one error is want of memory.
+    pub fn new(
+        alloc: Global,
+        space: Option<SharedText>,
+        local: SharedText,
+    ) -> Result<NodeName, AllocError>
+        ensures value { IfOk result (λ name. name ≡ record { space = unwrap_or space []; local = local }) }
     {
-        NodeName { space, local }
+        Ok(NodeName {
+            data: Shared::new(alloc, NameData { space, local })?,
+        })
     }
 
     /// The name of the namespace, empty where it has none.
     pub fn space(&self) -> &str
         ensures value { result.now ≡ self.now.space }
     {
-        match &self.space {
+        match &self.data.get().space {
             Some(space) => space.as_str(),
             None => "",
         }
@@ -44,20 +56,15 @@ impl NodeName {
     pub fn local(&self) -> &str
         ensures value { result.now ≡ self.now.local }
     {
-        self.local.as_str()
+        self.data.get().local.as_str()
     }
 
-    /// One more owner of the same texts. The one error is a full count of owners.
+    /// One more owner of the same name. The one error is a full count of owners.
     pub fn share(&self) -> Result<NodeName, AllocError>
         ensures value { IfOk result (λ name. name ≡ self.now) }
     {
-        let space = match &self.space {
-            Some(space) => Some(space.share()?),
-            None => None,
-        };
         Ok(NodeName {
-            space,
-            local: self.local.share()?,
+            data: self.data.share()?,
         })
     }
 }

@@ -33,7 +33,7 @@ fn name(alloc: Global, space: &str, local: &str) -> Result<NodeName, AllocError>
     } else {
         Some(SharedText::from_str(alloc, space)?)
     };
-    Ok(NodeName::new(space, SharedText::from_str(alloc, local)?))
+    NodeName::new(alloc, space, SharedText::from_str(alloc, local)?)
 }
 
 fn attr(

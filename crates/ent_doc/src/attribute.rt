@@ -9,25 +9,10 @@ use crate::distinct::are_distinct;
 use crate::fault::OpenFault;
 use crate::names::Names;
 use crate::source::Source;
-use bk_info::{Attr, How, NodeName};
+use bk_info::{Attr, How};
 use std::alloc::{AllocError, Global};
-use xt_table::{SharedText, Txt};
+use xt_table::Txt;
 use xt_value::{NameFault, NamedText, Scope, expand_name, is_declaration};
-
-/// The local part of a name, whose text is shared with the name where it is all of it.
-fn local_text(
-    alloc: Global,
-    names: &mut Names,
-    qname: &SharedText,
-    local: &str,
-) -> Result<SharedText, AllocError>
-    ensures value { IfOk result (λ shared. shared ≡ local.now) }
-{
-    if qname.as_str() == local {
-        return qname.share();
-    }
-    names.text(alloc, local)
-}
 
 /// The attribute of a name and a value.
 fn attr_of(
@@ -42,17 +27,13 @@ fn attr_of(
 {
     let written = value.name();
     match expand_name(scope, written, true) {
-        Ok(name) => {
-            let qname = names.text(alloc, written)?;
-            let local = local_text(alloc, names, &qname, name.local())?;
-            Ok(Attr {
-                qname,
-                name: NodeName::new(name.share_space()?, local),
-                value: Txt::from_string(value.into_value()),
-                is_id: written == "xml:id",
-                how: How::Written,
-            })
-        }
+        Ok(name) => Ok(Attr {
+            qname: names.text(alloc, written)?,
+            name: names.name(alloc, written, &name)?,
+            value: Txt::from_string(value.into_value()),
+            is_id: written == "xml:id",
+            how: How::Written,
+        }),
         Err(NameFault::Unbound) => Err(OpenFault::Book(source.unbound(alloc, written)?)),
         Err(NameFault::NoMemory) => Err(OpenFault::NoMemory),
     }

@@ -55,6 +55,6 @@ pub fn document_nodes(
     let context = top(alloc, file)?;
     let origin = Origin::file(alloc, file.share()?, Role::Document)?;
     let siblings = Siblings::top(alloc, origin)?;
-    let mut work = Work::new(alloc);
+    let mut work = Work::new(alloc)?;
     nodes_of(alloc, &source, &mut work, &context, &siblings, items)
 }

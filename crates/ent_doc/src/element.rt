@@ -43,10 +43,7 @@ fn name_of(
     ensures fault { IfErr result (Fails (named source.now.file.now scope.now false qname.now)) }
 {
     match expand_name(scope, qname, false) {
-        Ok(name) => {
-            let local = names.text(alloc, name.local())?;
-            Ok(NodeName::new(name.share_space()?, local))
-        }
+        Ok(name) => Ok(names.name(alloc, qname, &name)?),
         Err(NameFault::Unbound) => Err(OpenFault::Book(source.unbound(alloc, qname)?)),
         Err(NameFault::NoMemory) => Err(OpenFault::NoMemory),
     }

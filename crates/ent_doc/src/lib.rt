@@ -9,6 +9,7 @@ mod distinct;
 mod document;
 mod element;
 mod fault;
+mod guess;
 mod inclusion;
 mod laws;
 mod leaf;

@@ -1,5 +1,5 @@
 //! How far the nodes of a document are made.
-ghost use Rattle.std.specs.Prelude.{◌≡◌, suc, OnOk, IfErr, Result};
+ghost use Rattle.std.specs.Prelude.{◌≡◌, suc, OnOk, IfOk, IfErr, Result};
 ghost use Rattle.bk_spec.specs.Node.{Nodes};
 ghost use Rattle.bk_spec.specs.Fault.{Fault};
 ghost use Rattle.bk_spec.specs.DocumentNodes.{with_room};
@@ -8,7 +8,7 @@ ghost use Rattle.ent_doc.specs.Steps.{Fails};
 use crate::fault::OpenFault;
 use crate::names::Names;
 use crate::source::Source;
-use std::alloc::Global;
+use std::alloc::{AllocError, Global};
 
 /// How many nodes a document has at most.
 const MOST: u32 = 1_000_000;
@@ -21,14 +21,14 @@ pub(crate) struct Work {
 }
 
 impl Work {
-    /// No nodes yet; no memory is taken.
-    pub(crate) fn new(alloc: Global) -> Work
-        ensures count { result.count ≡ 0 }
+    /// No nodes yet. The one error is want of memory.
+    pub(crate) fn new(alloc: Global) -> Result<Work, AllocError>
+        ensures count { IfOk result (λ work. work.count ≡ 0) }
     {
-        Work {
+        Ok(Work {
             count: 0,
-            names: Names::new(alloc),
-        }
+            names: Names::new(alloc)?,
+        })
     }
 
     /// Counts one node more, where there is room for it.
