@@ -1,11 +1,13 @@
 //! The nodes of a book, as the product keeps them: elements with their attributes, texts, comments and processing
 //! instructions, with the file that each came from, its base URI and its language (XML Information Set, sections 2.2 to 2.7);
-//! and why a book does not open. What many nodes have in common is kept once and shared: names, contexts and origins.
+//! why a book does not open; and the records of what was asked for and read. What many nodes have in common is kept once and
+//! shared: names, contexts and origins.
 //! Contracts see plain values (`bk_spec::Node`). No file is read here (`ent_doc`).
 #![tactic(auto)]
 
 mod address;
 mod attr;
+mod book;
 mod context;
 mod fault;
 mod name;
@@ -17,8 +19,9 @@ mod tests;
 
 pub use address::{Address, Siblings};
 pub use attr::{Attr, How};
+pub use book::{Asked, AskedAs, Reading, Tree};
 pub use context::Context;
-pub use fault::BookFault;
+pub use fault::{BookFault, IncludeKind};
 pub use name::NodeName;
 pub use node::Node;
 pub use origin::{Origin, Role};

@@ -1,11 +1,13 @@
--- The printed tree, the infoset of nodes, and the paths of items that give nodes, computed.
-use Rattle.std.proofs.Common.{◌≡◌, refl, List, ℕ, [], ◌∷◌, codes, false, bytes_eq, Some, None}
+-- The printed tree, the infoset of nodes, the paths of items that give nodes, and the lines of faults, computed.
+use Rattle.std.proofs.Common.{◌≡◌, refl, [], ◌∷◌, codes, false, bytes_eq, Some, None}
 use Rattle.xt_spec.specs.Reading.{document, entity}
 use Rattle.xt_spec.specs.Tree.{Items, nil, element, leaf, text_item, comment_item, gap}
 use Rattle.bk_spec.specs.Node.{owned, Nodes, no_nodes, element_node, text_node, comment_node}
 use Rattle.bk_spec.specs.NodePaths.{node_paths}
+use Rattle.bk_spec.specs.IncludeKind.{two_fallbacks, encoding}
+use Rattle.bk_spec.specs.Fault.{undeclared, outside_book, bad_include, fault_line}
 use Rattle.bk_spec.specs.Print.{print_tree, quoted_text}
-use Rattle.bk_spec.specs.Infoset.{Plain, nothing_plain, element_plain, text_plain, comment_plain, infoset_of}
+use Rattle.bk_spec.specs.Infoset.{nothing_plain, element_plain, text_plain, comment_plain, infoset_of}
 
 hi : Nodes
 hi = element_node (record { space = []; local = codes "a"; attributes = []; base = codes "file:///book/book.xml"; lang = []; origin = owned (codes "book.xml") document })
@@ -58,3 +60,16 @@ gives_these_below = refl
 
 no_path_of_a_gap : node_paths [] 0 (leaf gap (codes " ") nil) ≡ (0 ∷ []) ∷ [] → ⊥
 no_path_of_a_gap same = absurd (cc)
+
+tells_an_entity : fault_line (undeclared (codes "b.xml") (codes "e")) ≡ codes "fault Undeclared b.xml e\n"
+tells_an_entity = refl
+
+tells_a_uri : fault_line (outside_book (codes "http://a/")) ≡ codes "fault OutsideBook http://a/\n"
+tells_a_uri = refl
+
+tells_two_fallbacks : fault_line (bad_include (codes "b.xml") two_fallbacks) ≡ codes "fault BadInclude b.xml TwoFallbacks\n"
+tells_two_fallbacks = refl
+
+-- the encoding of an include is no fault of a file's encoding
+tells_encodings_apart : bytes_eq (fault_line (bad_include (codes "b.xml") encoding)) (codes "fault Encoding b.xml\n") ≡ false
+tells_encodings_apart = refl

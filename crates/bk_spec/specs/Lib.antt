@@ -1,5 +1,6 @@
 pub mod Node
 pub mod Print
+pub mod IncludeKind
 pub mod Fault
 pub mod DocumentNodes
 pub mod Opening

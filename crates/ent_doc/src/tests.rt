@@ -104,6 +104,7 @@ fn fault_name(fault: &BookFault) -> &str {
         BookFault::Unbound { prefix, .. } => prefix.as_str(),
         BookFault::DuplicateAttribute { .. } => "duplicate attribute",
         BookFault::BadReference { .. } => "bad reference",
+        _ => "no fault of one document",
     }
 }
 
