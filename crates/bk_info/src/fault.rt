@@ -27,10 +27,11 @@ pub enum IncludeKind {
     StrayFallback,
 }
 
-/// Why a book does not open, with the file that holds the cause: the reference, the element or the include.
+/// Why a book does not open, with the file that holds the cause: the reference, the element or the include. A file that isn't
+/// there, or has no reading, is named itself.
 #[derive(Debug, Drop)]
 pub enum BookFault {
-    /// The root isn't there; or the file of an external entity isn't, and this one refers to it.
+    /// The file isn't there: the root, or one that an external entity or a DOCTYPE names.
     Missing { file: Name },
     /// It has more than 4,194,304 bytes, or gives more than 1,000,000 nodes.
     TooLarge { file: Name },

@@ -34,11 +34,11 @@ tags_in_place bytes [] from to are = tt
 tags_in_place bytes (tag_mark tag ∷ marks) from to are = ((from, are.0), tags_in_place bytes marks tag.span.to to are.1)
 tags_in_place bytes (span_mark span ∷ marks) from to are = tags_in_place bytes marks span.to to are.2
 
-element_marks : (head : TagSrc) (kids : List Src) (tail : Option Span) → marks_in (src.Elem head kids tail) ≡ tag_mark head ∷ marks_of kids ++ tail_marks tail
-element_marks head kids tail = ap marks_in (sym (src.rolls-Elem head kids tail)) ∙ fold-roll-Src (List Mark) mark_step (Src-F.Elem head kids tail)
+element_marks : (head : TagSrc) (kids : List Src) (tail : Option Span) → marks_in (src.Elem tail head kids) ≡ tag_mark head ∷ marks_of kids ++ tail_marks tail
+element_marks head kids tail = ap marks_in (sym (src.rolls-Elem tail head kids)) ∙ fold-roll-Src (List Mark) mark_step (Src-F.Elem tail head kids)
 
-element_is : (bytes : List ℕ) (head : TagSrc) (kids : List Src) (tail : Option Span) → item_of bytes (src.Elem head kids tail) ≡ element_item (at_span bytes head.span) (items_in bytes kids) (option_map (at_span bytes) tail)
-element_is bytes head kids tail = ap (item_of bytes) (sym (src.rolls-Elem head kids tail)) ∙ fold-roll-Src Item (item_step bytes) (Src-F.Elem head kids tail)
+element_is : (bytes : List ℕ) (head : TagSrc) (kids : List Src) (tail : Option Span) → item_of bytes (src.Elem tail head kids) ≡ element_item (at_span bytes head.span) (items_in bytes kids) (option_map (at_span bytes) tail)
+element_is bytes head kids tail = ap (item_of bytes) (sym (src.rolls-Elem tail head kids)) ∙ fold-roll-Src Item (item_step bytes) (Src-F.Elem tail head kids)
 
 text_is : (bytes : List ℕ) (span : Span) → item_of bytes (src.Text span) ≡ leaf_item text_item (at_span bytes span)
 text_is bytes span = ap (item_of bytes) (sym (src.rolls-Text span)) ∙ fold-roll-Src Item (item_step bytes) (Src-F.Text span)
@@ -50,7 +50,7 @@ pi_is : (bytes : List ℕ) (span : Span) → item_of bytes (src.Pi span) ≡ lea
 pi_is bytes span = ap (item_of bytes) (sym (src.rolls-Pi span)) ∙ fold-roll-Src Item (item_step bytes) (Src-F.Pi span)
 
 -- the tag of an element is in its place, and those of what it holds
-pub kids_in_place : (bytes : List ℕ) (item : Src) (head : TagSrc) (kids list : List Src) (tail : Option Span) → item ≡ src.Elem head kids tail → list ≡ kids → AreTagsInPlace bytes (marks_in item)
+pub kids_in_place : (bytes : List ℕ) (item : Src) (head : TagSrc) (kids list : List Src) (tail : Option Span) → item ≡ src.Elem tail head kids → list ≡ kids → AreTagsInPlace bytes (marks_in item)
     → AreTagsInPlace bytes (tag_mark head ∷ []) × AreTagsInPlace bytes (marks_of list)
 kids_in_place bytes item head kids list tail is same are =
     let at : AreTagsInPlace bytes (tag_mark head ∷ marks_of kids ++ tail_marks tail) = subst (λ (l : List Mark). AreTagsInPlace bytes l) (ap marks_in is ∙ element_marks head kids tail) are in
@@ -58,7 +58,7 @@ kids_in_place bytes item head kids list tail is same are =
     ((parts.0.0, tt), subst (λ (l : List Src). AreTagsInPlace bytes (marks_of l)) (sym same) parts.0.1)
 
 -- what an element holds has fewer tags and leaves, and one of some items has no more
-pub kids_fewer : (item : Src) (head : TagSrc) (kids list : List Src) (tail : Option Span) → item ≡ src.Elem head kids tail → list ≡ kids → length (marks_of list) < length (marks_in item)
+pub kids_fewer : (item : Src) (head : TagSrc) (kids list : List Src) (tail : Option Span) → item ≡ src.Elem tail head kids → list ≡ kids → length (marks_of list) < length (marks_in item)
 kids_fewer item head kids list tail is same =
     let whole : length (marks_in item) ≡ length (tag_mark head ∷ marks_of kids ++ tail_marks tail) = ap length (ap marks_in is ∙ element_marks head kids tail) in
     let held : length (marks_of list) ≡ length (marks_of kids) = ap (λ (l : List Src). length (marks_of l)) same in
@@ -75,7 +75,7 @@ pub item_fewer : (items : List Src) (i : ℕ) (x : Src) → i < length items →
 item_fewer items i x below is = rw is (one_fewer items i x below)
 
 -- what is so of each item that is spelled as this one is so of it
-pub of_element : (bytes : List ℕ) (P : Items → Type 0) (rest : Items) (item : Src) (head : TagSrc) (kids list : List Src) (tail : Option Span) → item ≡ src.Elem head kids tail → list ≡ kids
+pub of_element : (bytes : List ℕ) (P : Items → Type 0) (rest : Items) (item : Src) (head : TagSrc) (kids list : List Src) (tail : Option Span) → item ≡ src.Elem tail head kids → list ≡ kids
     → ((close : Option (List ℕ)) → P (element (at_span bytes head.span) (items_in bytes list) close rest)) → P (before (item_of bytes item) rest)
 of_element bytes P rest item head kids list tail is same all =
     subst (λ (x : Item). P (before x rest)) (sym (ap (item_of bytes) is ∙ element_is bytes head kids tail))

@@ -97,7 +97,7 @@ marks_after text [] from to place = omega (arith, place)
 marks_after text (tag_mark t ∷ marks) from to place = omega (arith, place.0.whole.1, marks_after text marks t.span.to to place.1)
 marks_after text (span_mark s ∷ marks) from to place = omega (arith, place.1, marks_after text marks s.to to place.2)
 
-pub element_placed : (text : List ℕ) (item : Src) (head : TagSrc) (kids slice : List Src) (tail : Option Span) → item ≡ src.Elem head kids tail → slice ≡ kids → ArePlaced text (marks_in item) → IsTagAt text head.span.from head × (head.span.to ≤ length text) × ArePlaced text (marks_of slice)
+pub element_placed : (text : List ℕ) (item : Src) (head : TagSrc) (kids slice : List Src) (tail : Option Span) → item ≡ src.Elem tail head kids → slice ≡ kids → ArePlaced text (marks_in item) → IsTagAt text head.span.from head × (head.span.to ≤ length text) × ArePlaced text (marks_of slice)
 element_placed text item head kids slice tail is same placed =
     let marks = ap marks_in is ∙ element_marks head kids tail in
     let here : AreInPlace text placed.from (tag_mark head ∷ marks_of kids ++ tail_marks tail) placed.to = subst (λ m. AreInPlace text placed.from m placed.to) marks placed.placed in
@@ -187,21 +187,21 @@ items_done text items i all past l = (subst (λ (d : List Src). ItemsLeft text d
 
 -- ---- each kind of item
 
-item_element : (bytes : List ℕ) (head : TagSrc) (kids : List Src) (tail : Option Span) → item_of bytes (src.Elem head kids tail) ≡ element_item (at_span bytes head.span) (items_in bytes kids) (option_map (at_span bytes) tail)
-item_element bytes head kids tail = ap (item_of bytes) (sym (src.rolls-Elem head kids tail)) ∙ fold-roll-Src Item (item_step bytes) (Src-F.Elem head kids tail)
+item_element : (bytes : List ℕ) (head : TagSrc) (kids : List Src) (tail : Option Span) → item_of bytes (src.Elem tail head kids) ≡ element_item (at_span bytes head.span) (items_in bytes kids) (option_map (at_span bytes) tail)
+item_element bytes head kids tail = ap (item_of bytes) (sym (src.rolls-Elem tail head kids)) ∙ fold-roll-Src Item (item_step bytes) (Src-F.Elem tail head kids)
 
 abbrev ElementOf : List ℕ → TagSrc → List Src → Option Span → Items
 ElementOf text head kids tail = element (at_span text head.span) (items_in text kids) (option_map (at_span text) tail) nil
 
-element_shape : (text : List ℕ) (item : Src) (head : TagSrc) (kids slice : List Src) (tail : Option Span) → item ≡ src.Elem head kids tail → slice ≡ kids → before (item_of text item) nil ≡ ElementOf text head slice tail
+element_shape : (text : List ℕ) (item : Src) (head : TagSrc) (kids slice : List Src) (tail : Option Span) → item ≡ src.Elem tail head kids → slice ≡ kids → before (item_of text item) nil ≡ ElementOf text head slice tail
 element_shape text item head kids slice tail is same =
     ap (λ i. before (item_of text i) nil) is ∙ ap (λ i. before i nil) (item_element text head kids tail) ∙ ap (λ k. ElementOf text head k tail) (sym same)
 
-pub element_spelled : (text : List ℕ) (item : Src) (head : TagSrc) (kids slice : List Src) (tail : Option Span) → item ≡ src.Elem head kids tail → slice ≡ kids → AreSpelled (before (item_of text item) nil) → AreSpelled (items_in text slice)
+pub element_spelled : (text : List ℕ) (item : Src) (head : TagSrc) (kids slice : List Src) (tail : Option Span) → item ≡ src.Elem tail head kids → slice ≡ kids → AreSpelled (before (item_of text item) nil) → AreSpelled (items_in text slice)
 element_spelled text item head kids slice tail is same spelled =
     let here : AreSpelled (ElementOf text head slice tail) = subst AreSpelled (element_shape text item head kids slice tail is same) spelled in here.1
 
-element_is : (text : List ℕ) (item : Src) (head : TagSrc) (kids slice : List Src) (tail : Option Span) → item ≡ src.Elem head kids tail → slice ≡ kids → AreSpelled (before (item_of text item) nil) → (at : IsTagAt text head.span.from head)
+element_is : (text : List ℕ) (item : Src) (head : TagSrc) (kids slice : List Src) (tail : Option Span) → item ≡ src.Elem tail head kids → slice ≡ kids → AreSpelled (before (item_of text item) nil) → (at : IsTagAt text head.span.from head)
     → ((AllByRecursion HasValue at.tag.attributes × GiveContent (items_in text slice)) ↔ GiveContent (before (item_of text item) nil))
 element_is text item head kids slice tail is same spelled at =
     let shape = element_shape text item head kids slice tail is same in
@@ -209,14 +209,14 @@ element_is text item head kids slice tail is same spelled at =
     subst (λ i. (AllByRecursion HasValue at.tag.attributes × GiveContent (items_in text slice)) ↔ GiveContent i) (sym shape) (element_content_is text head (items_in text slice) (option_map (at_span text) tail) at here.0)
 
 -- where the attributes have values, an element gives content exactly where what it holds does
-pub element_tested : (text : List ℕ) (item : Src) (head : TagSrc) (kids slice : List Src) (tail : Option Span) (values inner : Bool) → item ≡ src.Elem head kids tail → slice ≡ kids → AreSpelled (before (item_of text item) nil) → (at : IsTagAt text head.span.from head)
+pub element_tested : (text : List ℕ) (item : Src) (head : TagSrc) (kids slice : List Src) (tail : Option Span) (values inner : Bool) → item ≡ src.Elem tail head kids → slice ≡ kids → AreSpelled (before (item_of text item) nil) → (at : IsTagAt text head.span.from head)
     → (IsTrue values ↔ AllByRecursion HasValue at.tag.attributes) → values ≡ true → (IsTrue inner ↔ GiveContent (items_in text slice)) → (IsTrue inner ↔ GiveContent (before (item_of text item) nil))
 element_tested text item head kids slice tail values inner is same spelled at test holds inner_test =
     let both = element_is text item head kids slice tail is same spelled at in
     ((λ i. both.0 (test.0 holds, inner_test.0 i)), (λ c. inner_test.1 (both.1 c).1))
 
 -- .. and where one has none, it gives none
-pub element_fails : (text : List ℕ) (item : Src) (head : TagSrc) (kids : List Src) (tail : Option Span) (values : Bool) → item ≡ src.Elem head kids tail → AreSpelled (before (item_of text item) nil) → (at : IsTagAt text head.span.from head)
+pub element_fails : (text : List ℕ) (item : Src) (head : TagSrc) (kids : List Src) (tail : Option Span) (values : Bool) → item ≡ src.Elem tail head kids → AreSpelled (before (item_of text item) nil) → (at : IsTagAt text head.span.from head)
     → (IsTrue values ↔ AllByRecursion HasValue at.tag.attributes) → values ≡ false → GiveContent (before (item_of text item) nil) → ⊥
 element_fails text item head kids tail values is spelled at test fails content =
     let both = element_is text item head kids kids tail is refl spelled at in
@@ -249,7 +249,7 @@ pi_gives text item span is spelled =
 
 -- ---- the recursion ends: an element has more marks than its children
 
-pub kids_fewer : (item : Src) (head : TagSrc) (kids slice : List Src) (tail : Option Span) → item ≡ src.Elem head kids tail → slice ≡ kids → length (marks_of slice) < length (marks_in item)
+pub kids_fewer : (item : Src) (head : TagSrc) (kids slice : List Src) (tail : Option Span) → item ≡ src.Elem tail head kids → slice ≡ kids → length (marks_of slice) < length (marks_in item)
 kids_fewer item head kids slice tail is same = omega (arith, ap (λ i. length (marks_in i)) is, ap length (element_marks head kids tail), length-append (marks_of kids) (tail_marks tail), ap (λ k. length (marks_of k)) same)
 
 marks_member : (items : List Src) (i : ℕ) (d : Src) → i < length items → length (marks_in (get_or items i d)) ≤ length (marks_of items)

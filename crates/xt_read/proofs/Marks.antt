@@ -29,8 +29,8 @@ reference_marks s = ap marks_in (sym (src.rolls-Ref s)) ∙ fold-roll-Src (List 
 pub gap_marks : (s : Span) → marks_in (src.Gap s) ≡ span_mark s ∷ []
 gap_marks s = ap marks_in (sym (src.rolls-Gap s)) ∙ fold-roll-Src (List Mark) mark_step (Src-F.Gap s)
 
-pub element_marks : (head : Tag) (kids : List Src) (tail : Option Span) → marks_in (src.Elem head kids tail) ≡ tag_mark head ∷ marks_of kids ++ tail_marks tail
-element_marks head kids tail = ap marks_in (sym (src.rolls-Elem head kids tail)) ∙ fold-roll-Src (List Mark) mark_step (Src-F.Elem head kids tail)
+pub element_marks : (head : Tag) (kids : List Src) (tail : Option Span) → marks_in (src.Elem tail head kids) ≡ tag_mark head ∷ marks_of kids ++ tail_marks tail
+element_marks head kids tail = ap marks_in (sym (src.rolls-Elem tail head kids)) ∙ fold-roll-Src (List Mark) mark_step (Src-F.Elem tail head kids)
 
 pub marks_push : (items : List Src) (item : Src) → marks_of (items ++ item ∷ []) ≡ marks_of items ++ marks_in item
 marks_push [] item = append-nil (marks_in item)
@@ -55,8 +55,8 @@ pushed frames marks items new item mark added is before = pushed_item frames mar
 pub pushed_text : (frames : List Mark) (items new : List Src) (span : Span) → new ≡ items ++ src.Text span ∷ [] → frames ++ marks_of new ≡ (frames ++ marks_of items) ++ span_mark span ∷ []
 pushed_text frames items new span added = sym (append-nil (frames ++ marks_of new)) ∙ pushed frames (frames ++ marks_of items) items new (src.Text span) (span_mark span) added (text_marks span) refl
 
-pub pushed_empty : (frames marks : List Mark) (items new : List Src) (head : Tag) → new ≡ items ++ src.Elem head [] None ∷ [] → frames ++ marks_of items ≡ marks → (frames ++ marks_of new) ++ [] ≡ marks ++ tag_mark head ∷ []
-pushed_empty frames marks items new head added before = pushed frames marks items new (src.Elem head [] None) (tag_mark head) added (element_marks head [] None) before
+pub pushed_empty : (frames marks : List Mark) (items new : List Src) (head : Tag) → new ≡ items ++ src.Elem None head [] ∷ [] → frames ++ marks_of items ≡ marks → (frames ++ marks_of new) ++ [] ≡ marks ++ tag_mark head ∷ []
+pushed_empty frames marks items new head added before = pushed frames marks items new (src.Elem None head []) (tag_mark head) added (element_marks head [] None) before
 
 pub opened_frame : (frames new : List Frame) (items : List Src) (frame : Frame) (marks : List Mark) → new ≡ frames ++ frame ∷ [] → frame.before ≡ items → frame_marks frames ++ marks_of items ≡ marks → (frame_marks new ++ []) ++ [] ≡ marks ++ tag_mark frame.head ∷ []
 opened_frame frames new items frame marks added is before =
@@ -67,12 +67,12 @@ opened_frame frames new items frame marks added is before =
 regrouped : (a b k : List Mark) (x y : Mark) → (a ++ b) ++ (x ∷ k ++ (y ∷ [])) ≡ ((a ++ (b ++ (x ∷ []))) ++ k) ++ (y ∷ [])
 regrouped a b k x y = simp append_assoc
 
-pub closed_frame : (frames : List Frame) (head : Tag) (before items new : List Src) (span : Span) (all : List Frame) (frame : Frame) (marks : List Mark) → all ≡ frames ++ frame ∷ [] → frame.head ≡ head → frame.before ≡ before → frame_marks all ++ marks_of items ≡ marks → new ≡ before ++ src.Elem head items (Some span) ∷ []
+pub closed_frame : (frames : List Frame) (head : Tag) (before items new : List Src) (span : Span) (all : List Frame) (frame : Frame) (marks : List Mark) → all ≡ frames ++ frame ∷ [] → frame.head ≡ head → frame.before ≡ before → frame_marks all ++ marks_of items ≡ marks → new ≡ before ++ src.Elem (Some span) head items ∷ []
     → (frame_marks frames ++ marks_of new) ++ [] ≡ marks ++ span_mark span ∷ []
 closed_frame frames head before items new span all frame marks is same_head same_before settled added =
     append-nil (frame_marks frames ++ marks_of new)
     ∙ ap (λ n. frame_marks frames ++ marks_of n) added
-    ∙ ap (λ m. frame_marks frames ++ m) (marks_push before (src.Elem head items (Some span)) ∙ ap (λ m. marks_of before ++ m) (element_marks head items (Some span)))
+    ∙ ap (λ m. frame_marks frames ++ m) (marks_push before (src.Elem (Some span) head items) ∙ ap (λ m. marks_of before ++ m) (element_marks head items (Some span)))
     ∙ sym (append_assoc (frame_marks frames) (marks_of before) (tag_mark head ∷ marks_of items ++ span_mark span ∷ []))
     ∙ regrouped (frame_marks frames) (marks_of before) (marks_of items) (tag_mark head) (span_mark span)
     ∙ ap (λ m. (m ++ marks_of items) ++ span_mark span ∷ []) (ap (λ b. frame_marks frames ++ (marks_of b ++ tag_mark head ∷ [])) (sym same_before) ∙ ap (λ h. frame_marks frames ++ (marks_of frame.before ++ tag_mark h ∷ [])) (sym same_head) ∙ sym (frame_push frames frame) ∙ ap frame_marks (sym is))
@@ -80,14 +80,14 @@ closed_frame frames head before items new span all frame marks is same_head same
 
 -- the same, from what the calls answered
 pub closed_step : (frames : List Frame) (head : Tag) (before dest kids items new : List Src) (span : Span) (all : List Frame) (frame : Frame) (marks : List Mark) → all ≡ frames ++ frame ∷ [] → frame.head ≡ head → frame.before ≡ before → frame_marks all ++ marks_of items ≡ marks
-    → dest ≡ before → kids ≡ items → new ≡ dest ++ src.Elem head kids (Some span) ∷ [] → (frame_marks frames ++ marks_of new) ++ [] ≡ marks ++ span_mark span ∷ []
+    → dest ≡ before → kids ≡ items → new ≡ dest ++ src.Elem (Some span) head kids ∷ [] → (frame_marks frames ++ marks_of new) ++ [] ≡ marks ++ span_mark span ∷ []
 closed_step frames head before dest kids items new span all frame marks is same_head same_before settled same_dest same_kids added =
     closed_frame frames head before items new span all frame marks is same_head same_before settled
-    (added ∙ ap (λ d. d ++ src.Elem head kids (Some span) ∷ []) same_dest ∙ ap (λ k. before ++ src.Elem head k (Some span) ∷ []) same_kids)
+    (added ∙ ap (λ d. d ++ src.Elem (Some span) head kids ∷ []) same_dest ∙ ap (λ k. before ++ src.Elem (Some span) head k ∷ []) same_kids)
 
-pub empty_step : (frames marks : List Mark) (items new kids : List Src) (head : Tag) → kids ≡ [] → new ≡ items ++ src.Elem head kids None ∷ [] → frames ++ marks_of items ≡ marks → (frames ++ marks_of new) ++ [] ≡ marks ++ tag_mark head ∷ []
+pub empty_step : (frames marks : List Mark) (items new kids : List Src) (head : Tag) → kids ≡ [] → new ≡ items ++ src.Elem None head kids ∷ [] → frames ++ marks_of items ≡ marks → (frames ++ marks_of new) ++ [] ≡ marks ++ tag_mark head ∷ []
 empty_step frames marks items new kids head none added before =
-    pushed_empty frames marks items new head (added ∙ ap (λ k. items ++ src.Elem head k None ∷ []) none) before
+    pushed_empty frames marks items new head (added ∙ ap (λ k. items ++ src.Elem None head k ∷ []) none) before
 
 pub opened_step : (frames new : List Frame) (items inner : List Src) (frame : Frame) (marks : List Mark) → new ≡ frames ++ frame ∷ [] → frame.before ≡ items → inner ≡ [] → frame_marks frames ++ marks_of items ≡ marks → (frame_marks new ++ marks_of inner) ++ [] ≡ marks ++ tag_mark frame.head ∷ []
 opened_step frames new items inner frame marks added is none before =

@@ -36,11 +36,11 @@ range_to_end bytes a = take_all (length bytes - a) (drop a bytes) (omega (arith,
 
 -- ---- what an element is
 
-pub element_marks : (head : Tag) (kids : List Src) (tail : Option Span) → marks_in (src.Elem head kids tail) ≡ tag_mark head ∷ marks_of kids ++ tail_marks tail
-element_marks head kids tail = ap marks_in (sym (src.rolls-Elem head kids tail)) ∙ fold-roll-Src (List Mark) mark_step (Src-F.Elem head kids tail)
+pub element_marks : (head : Tag) (kids : List Src) (tail : Option Span) → marks_in (src.Elem tail head kids) ≡ tag_mark head ∷ marks_of kids ++ tail_marks tail
+element_marks head kids tail = ap marks_in (sym (src.rolls-Elem tail head kids)) ∙ fold-roll-Src (List Mark) mark_step (Src-F.Elem tail head kids)
 
-pub element_is : (bytes : List ℕ) (head : Tag) (kids : List Src) (tail : Option Span) → item_of bytes (src.Elem head kids tail) ≡ element_item (at_span bytes head.span) (items_in bytes kids) (option_map (at_span bytes) tail)
-element_is bytes head kids tail = ap (item_of bytes) (sym (src.rolls-Elem head kids tail)) ∙ fold-roll-Src Item (item_step bytes) (Src-F.Elem head kids tail)
+pub element_is : (bytes : List ℕ) (head : Tag) (kids : List Src) (tail : Option Span) → item_of bytes (src.Elem tail head kids) ≡ element_item (at_span bytes head.span) (items_in bytes kids) (option_map (at_span bytes) tail)
+element_is bytes head kids tail = ap (item_of bytes) (sym (src.rolls-Elem tail head kids)) ∙ fold-roll-Src Item (item_step bytes) (Src-F.Elem tail head kids)
 
 pub in_order : (bytes : List ℕ) (from : ℕ) (marks : List Mark) (to : ℕ) → AreInPlace bytes from marks to → from ≤ to
 in_order bytes from [] to is = omega (arith, is)
@@ -76,7 +76,7 @@ leaf_text bytes span from to is = append-nil (at_span bytes span) ∙ ap (λ n. 
 layer_text : (bytes : List ℕ) (y : Src-F ((s : Src) × HasItsText bytes s)) (from to : ℕ)
     → AreInPlace bytes from (mark_step (map-Src Src (List Mark) marks_in (map-Src ((s : Src) × HasItsText bytes s) Src (λ e. e.0) y))) to
     → item_text (item_step bytes (map-Src Src Item (item_of bytes) (map-Src ((s : Src) × HasItsText bytes s) Src (λ e. e.0) y))) ≡ slice_range bytes from to
-layer_text bytes (Src-F.Elem head kids tail) from to is =
+layer_text bytes (Src-F.Elem tail head kids) from to is =
     let (mid, inside, behind) = in_place-split bytes head.span.to to (marks_of (map (λ e. e.0) kids)) (tail_marks tail) is.1 in
     let head_from : at_span bytes head.span ≡ slice_range bytes from head.span.to = ap (λ n. slice_range bytes n head.span.to) is.0.whole.0 in
     three_ranges bytes from head.span.to mid to (at_span bytes head.span) (source_text (items_in bytes (map (λ e. e.0) kids))) (close_text (option_map (at_span bytes) tail))
@@ -104,7 +104,7 @@ texts_in_place bytes (item ∷ items) from to is =
 
 -- ---- the whole span of an element
 
-pub span_to_tail : (bytes : List ℕ) (item : Src) (head : Tag) (kids : List Src) (tail : Option Span) (span : Span) (from to : ℕ) → item ≡ src.Elem head kids tail → tail ≡ Some span
+pub span_to_tail : (bytes : List ℕ) (item : Src) (head : Tag) (kids : List Src) (tail : Option Span) (span : Span) (from to : ℕ) → item ≡ src.Elem tail head kids → tail ≡ Some span
     → AreInPlace bytes from (marks_in item) to → (head.span.from ≡ from) × (span.to ≡ to)
 span_to_tail bytes item head kids tail span from to is ends place =
     let marks : marks_in item ≡ tag_mark head ∷ marks_of kids ++ tail_marks (Some span) = ap marks_in is ∙ element_marks head kids tail ∙ ap (λ t. tag_mark head ∷ marks_of kids ++ tail_marks t) ends in
@@ -120,7 +120,7 @@ no_items : (bytes : List ℕ) (items : List Src) → items_in bytes items ≡ ni
 no_items bytes [] is = refl
 no_items bytes (item ∷ items) is = absurd (before-not_nil (item_of bytes item) (items_in bytes items) is)
 
-pub span_of_tag : (bytes : List ℕ) (item : Src) (head : Tag) (kids : List Src) (tail : Option Span) (from to : ℕ) → item ≡ src.Elem head kids tail → tail ≡ None
+pub span_of_tag : (bytes : List ℕ) (item : Src) (head : Tag) (kids : List Src) (tail : Option Span) (from to : ℕ) → item ≡ src.Elem tail head kids → tail ≡ None
     → AreInPlace bytes from (marks_in item) to → IsClosed (item_of bytes item) → (head.span.from ≡ from) × (head.span.to ≡ to)
 span_of_tag bytes item head kids tail from to is ends place closed =
     let item_is : item_of bytes item ≡ element_item (at_span bytes head.span) (items_in bytes kids) None = ap (item_of bytes) is ∙ element_is bytes head kids tail ∙ ap (λ t. element_item (at_span bytes head.span) (items_in bytes kids) (option_map (at_span bytes) t)) ends in
@@ -217,7 +217,7 @@ leaf_kids bytes kind span from to is = record {
 }
 
 layer_kids : (bytes : List ℕ) (y : Src-F Src) (from to : ℕ) → AreInPlace bytes from (mark_step (map-Src Src (List Mark) marks_in y)) to → AreKids bytes (item_step bytes (map-Src Src Item (item_of bytes) y)) (kids_at y) from to
-layer_kids bytes (Src-F.Elem head kids tail) from to is =
+layer_kids bytes (Src-F.Elem tail head kids) from to is =
     let (mid, inside, behind) = in_place-split bytes head.span.to to (marks_of kids) (tail_marks tail) is.1 in
     record {
       at = head.span.to;

@@ -28,7 +28,7 @@ item_in-none bytes (first ∷ items) zero path is = absurd cc
 item_in-none bytes (first ∷ items) (suc index) path is = item_in-behind (item_of bytes first) (items_in bytes items) index path ∙ item_in-none bytes items index path is
 
 layer_under : (bytes : List ℕ) (y : Src-F Src) (index : ℕ) (path : List ℕ) → item_under (item_step bytes (map-Src Src Item (item_of bytes) y)) (index ∷ path) ≡ item_in (items_in bytes (kids_at y)) index path
-layer_under bytes (Src-F.Elem head kids tail) index path = refl
+layer_under bytes (Src-F.Elem tail head kids) index path = refl
 layer_under bytes (Src-F.Text span) index path = refl
 layer_under bytes (Src-F.Ref span) index path = refl
 layer_under bytes (Src-F.Comment span) index path = refl

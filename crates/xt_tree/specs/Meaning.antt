@@ -16,7 +16,7 @@ at_span bytes span = slice_range bytes span.from span.to
 
 -- one item, with the items of the model in the place of those that it holds
 abbrev pub item_step : List ℕ → Src-F Item → Item
-item_step bytes (Elem head kids tail) = element_item (at_span bytes head.span) (items_of kids) (option_map (at_span bytes) tail)
+item_step bytes (Elem tail head kids) = element_item (at_span bytes head.span) (items_of kids) (option_map (at_span bytes) tail)
 item_step bytes (Text span) = leaf_item text_item (at_span bytes span)
 item_step bytes (Ref span) = leaf_item reference_item (at_span bytes span)
 item_step bytes (Comment span) = leaf_item comment_item (at_span bytes span)

@@ -29,7 +29,7 @@ joined_marks [] = []
 joined_marks (marks ∷ others) = marks ++ joined_marks others
 
 abbrev pub mark_step : Src-F (List Mark) → List Mark
-mark_step (Elem head kids tail) = tag_mark head ∷ joined_marks kids ++ tail_marks tail
+mark_step (Elem tail head kids) = tag_mark head ∷ joined_marks kids ++ tail_marks tail
 mark_step (Text span) = span_mark span ∷ []
 mark_step (Ref span) = span_mark span ∷ []
 mark_step (Comment span) = span_mark span ∷ []

@@ -16,7 +16,7 @@ use Rattle.xt_tree.specs.Places.{marks_in, AreInPlace}
 
 -- the items that an item holds; a leaf holds none
 abbrev pub kids_at : Src-F Src → List Src
-kids_at (Elem head kids tail) = kids
+kids_at (Elem tail head kids) = kids
 kids_at (Text span) = []
 kids_at (Ref span) = []
 kids_at (Comment span) = []

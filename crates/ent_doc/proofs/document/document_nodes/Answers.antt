@@ -18,13 +18,13 @@ nodes_of-requires c = record {
 
 pub returns-clause-value : goal.returns-clause-value
 returns-clause-value c =
-    IfOk-weaker c.nodes_of.result _ _ (λ nodes gives. document_gives c.args.file.now c.args.text.now c.args.items.now c.in_ok-context.context c.new-work.result.count c.nodes_of.new.work.count nodes
-    c.in_ok-context.ensures.value c.new-work.ensures.count gives) c.nodes_of.ensures.value
+    IfOk-weaker c.nodes_of.result _ _ (λ nodes gives. document_gives c.args.file.now c.args.text.now c.args.items.now c.in_ok-context.context c.in_ok-work.work.count c.nodes_of.new.work.count nodes
+    c.in_ok-context.ensures.value c.in_ok-work.ensures.count gives) c.nodes_of.ensures.value
 
 pub returns-clause-fault : goal.returns-clause-fault
 returns-clause-fault c =
-    IfErr-weaker c.nodes_of.result _ _ (λ fault gives. document_fails c.args.file.now c.args.text.now c.args.items.now c.in_ok-context.context c.new-work.result.count fault
-    c.in_ok-context.ensures.value c.new-work.ensures.count gives) c.nodes_of.ensures.fault
+    IfErr-weaker c.nodes_of.result _ _ (λ fault gives. document_fails c.args.file.now c.args.text.now c.args.items.now c.in_ok-context.context c.in_ok-work.work.count fault
+    c.in_ok-context.ensures.value c.in_ok-work.ensures.count gives) c.nodes_of.ensures.fault
 
 pub returns-clause-paths : goal.returns-clause-paths
 returns-clause-paths c =
