@@ -4,6 +4,7 @@ pub mod PieceLemmas
 pub mod ReadingLemmas
 pub mod StandingLemmas
 pub mod TextEditLemmas
+pub mod TextFileLemmas
 pub mod TextPlaceLemmas
 pub mod Theorems
 pub mod Utf8Lemmas

@@ -1,3 +1,4 @@
+pub mod ByteOrderMark
 pub mod Pieces
 pub mod TextPlace
 pub mod EditedContent

@@ -9,5 +9,5 @@ mod laws;
 mod tests;
 mod text;
 
-pub use laws::{one_text_changes, pieces_tell_the_tree};
+pub use laws::{no_other_value_reads_as_text, one_text_changes, pieces_tell_the_tree};
 pub use text::{is_text_at, text_patch};

@@ -11,7 +11,7 @@ use std::marker::Brand;
 use std::sync::ledger::{Blank, Ledger};
 use std::test::Fail;
 use xt_lex::{Span, Steps};
-use xt_read::read_document;
+use xt_read::{read_document, read_text};
 use xt_tree::{Src, splice};
 
 /// The file with this value at the path; as it is, where no text is there.
@@ -121,6 +121,87 @@ fn a_file_of_text_has_its_value_as_it_is(rt: HostRuntime) -> Result<(), Fail> {
     for value in ["a&b", "", "]"] {
         let bytes = edited_text(rt.alloc(), b"a<b", value)?;
         assert_eq!(rt; bytes.as_slice(), value.as_bytes());
+    }
+    Ok(())
+}
+
+/// The most bytes of a file that is read as a text here.
+const MOST_BYTES: usize = 1_000;
+
+fn text_file_over<L: Ledger>(
+    alloc: Global,
+    file: &[u8],
+    path: &[u32],
+    value: &String,
+    blank: Blank,
+) -> Result<Vec<u8>, Fail>
+    requires name { blank.name ≡ L.name }
+    requires parts { blank.parts ≡ L.parts }
+    requires some { L.parts ≡ 1 }
+{
+    let mut steps = Steps::<L>::new(blank);
+    if file.len() > MOST_BYTES {
+        return Ok(Vec::new(alloc));
+    }
+    let items = read_text(alloc, file, &mut steps)?;
+    with_text(alloc, file, items.as_slice(), path, value.as_str(), true)
+}
+
+/// The file that is read as a text, with this value at the path.
+fn text_file(alloc: Global, file: &[u8], path: &[u32], value: &str) -> Result<Vec<u8>, Fail> {
+    let value = String::from_str(alloc, value)?;
+    let blank = Blank::new(1);
+    text_file_over::<Brand>(alloc, file, path, &value, blank)
+}
+
+fn has_text_over<L: Ledger>(
+    alloc: Global,
+    file: &[u8],
+    path: &[u32],
+    blank: Blank,
+) -> Result<bool, Fail>
+    requires name { blank.name ≡ L.name }
+    requires parts { blank.parts ≡ L.parts }
+    requires some { L.parts ≡ 1 }
+{
+    let mut steps = Steps::<L>::new(blank);
+    if file.len() > MOST_BYTES {
+        return Ok(false);
+    }
+    let items = read_text(alloc, file, &mut steps)?;
+    Ok(is_text_at(items.as_slice(), path))
+}
+
+/// Whether the file, read as a text, has one at the path.
+fn has_text(alloc: Global, file: &[u8], path: &[u32]) -> Result<bool, Fail> {
+    let blank = Blank::new(1);
+    has_text_over::<Brand>(alloc, file, path, blank)
+}
+
+#[test]
+fn a_file_of_text_keeps_its_byte_order_mark(rt: HostRuntime) -> Result<(), Fail> {
+    let alloc = rt.alloc();
+    for (file, path, value, after, stays) in [
+        ("\u{FEFF}a<b", [1].as_slice(), "a&b", "\u{FEFF}a&b", true),
+        (
+            "\u{FEFF}x",
+            [1].as_slice(),
+            "\u{FEFF}y",
+            "\u{FEFF}\u{FEFF}y",
+            true,
+        ),
+        ("\u{FEFF}x", [1].as_slice(), "", "\u{FEFF}", false),
+        ("\u{FEFF}x", [0].as_slice(), "y", "\u{FEFF}x", false),
+        ("x", [0].as_slice(), "y\u{FEFF}", "y\u{FEFF}", true),
+        ("x", [0].as_slice(), "\u{FEFF}y", "\u{FEFF}y", false),
+    ] {
+        let bytes = text_file(alloc, file.as_bytes(), path, value)?;
+        assert_eq!(rt; bytes.as_slice(), after.as_bytes(), "at {path:?} {value}");
+        assert_eq!(rt;
+            has_text(alloc, bytes.as_slice(), path)?,
+            stays,
+            "at {path:?} {value}"
+        );
     }
     Ok(())
 }

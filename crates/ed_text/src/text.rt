@@ -6,7 +6,7 @@ ghost use Rattle.std.specs.Str.{chars};
 ghost use Rattle.xt_spec.specs.Char.{is_char};
 ghost use Rattle.xt_spec.specs.Tree.{Items, source_text, leaf_item, text_item};
 ghost use Rattle.xt_spec.specs.Text.{HasTextValue};
-ghost use Rattle.xt_spec.specs.Reading.{document, IsReading};
+ghost use Rattle.xt_spec.specs.Reading.{document, plain_text, IsReading};
 ghost use Rattle.xt_spec.specs.Content.{Content, HasContent};
 ghost use Rattle.xt_spec.specs.Paths.{item_at};
 ghost use Rattle.ed_spec.specs.TextEdit.{text_items, text_edited};
@@ -14,6 +14,7 @@ ghost use Rattle.xt_tree.specs.Meaning.{item_of, items_in};
 ghost use Rattle.xt_tree.specs.Patches.{patched};
 ghost use Rattle.xt_tree.specs.Places.{marks_of, AreInPlace};
 ghost use Rattle.xt_tree.specs.Spans.{Stands};
+ghost use Rattle.ed_text.specs.ByteOrderMark.{AddsNoByteOrderMark};
 ghost use Rattle.ed_text.specs.TextPlace.{IsText, IsTextAt};
 ghost use Rattle.ed_text.specs.EditedContent.{content_edited};
 
@@ -58,7 +59,8 @@ fn text_bytes(alloc: Global, value: &str, plain: bool) -> Result<Vec<u8>, AllocE
 /// What comes in place of the text item at the path, so that its value is this one; nothing, where the value is empty.
 ///
 /// In a file that is read as text (`plain`) the value is written as it is, else escaped: with the value `a<b`, the text of
-/// `<p>x</p>` at `[0, 0]` gives `a&lt;b` in place of the byte at 3.
+/// `<p>x</p>` at `[0, 0]` gives `a&lt;b` in place of the byte at 3. As it is, a value that begins with U+FEFF would be read as
+/// a byte order mark in front of the file, and only behind another one as text (`AddsNoByteOrderMark`).
 pub fn text_patch(
     alloc: Global,
     file: &[u8],
@@ -73,6 +75,7 @@ pub fn text_patch(
     ensures exact { IfOk result (λ patch. patch.new.items ≡ source_text (text_items plain (chars value.now))) }
     ensures value { IfOk result (λ patch. patched file.now patch ≡ source_text (text_edited plain (items_in file.now items.now) path.now (chars value.now))) }
     ensures reads { plain ≡ false → list_all is_char (chars value.now) ≡ true → IsReading document file.now (items_in file.now items.now) → IfOk result (λ patch. IsReading document (patched file.now patch) (text_edited false (items_in file.now items.now) path.now (chars value.now))) }
+    ensures reads_as_text { plain ≡ true → list_all is_char (chars value.now) ≡ true → AddsNoByteOrderMark file.now value.now → IsReading plain_text file.now (items_in file.now items.now) → IfOk result (λ patch. IsReading plain_text (patched file.now patch) (text_edited true (items_in file.now items.now) path.now (chars value.now))) }
     ensures keeps { plain ≡ false → list_all is_char (chars value.now) ≡ true → IsReading document file.now (items_in file.now items.now) → IfOk result (λ patch. (content : Content) (others : Items) → HasContent (items_in file.now items.now) content → IsReading document (patched file.now patch) others → HasContent others (content_edited (items_in file.now items.now) path.now value.now content)) }
     ensures reads_back { plain ≡ false → list_all is_char (chars value.now) ≡ true → value.now ≢ [] → IfOk result (λ patch. (item_at (text_edited false (items_in file.now items.now) path.now (chars value.now)) path.now ≡ Some (leaf_item text_item patch.new.items)) × HasTextValue patch.new.items value.now) }
 {
