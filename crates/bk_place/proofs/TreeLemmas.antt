@@ -1,15 +1,15 @@
 -- How the lines of nodes, and of attributes, follow each other.
-use Rattle.std.proofs.Common.{◌≡◌, ◌∙◌, ℕ, suc, ◌+◌, ◌<◌, ◌≤◌, List, [], ◌∷◌, ◌++◌, drop, length, get_or, map, refl, sym, ap, subst, arith, append_assoc, append-nil, Option, Some, None, codes, drop-cons}
+use Rattle.std.proofs.Common.{◌≡◌, ◌∙◌, ℕ, suc, ◌+◌, ◌<◌, ◌≤◌, List, [], ◌∷◌, ◌++◌, drop, length, get_or, sym, ap, subst, arith, append_assoc, append-nil, Option, Some, codes, drop-cons}
 use Rattle.std.proofs.lemmas.Grind.{common_steps}
 use Rattle.xt_spec.specs.Namespace.{Expanded}
-use Rattle.bk_spec.specs.Node.{Origin, Head, Nodes, no_nodes, element_node, text_node, comment_node, pi_node}
-use Rattle.bk_spec.specs.Print.{deeper, element_line, base_line, attribute_line, attribute_lines, text_line, comment_line, pi_line, print_nodes, print_tree}
+use Rattle.bk_spec.specs.Node.{Origin, Head, Nodes, element_node}
+use Rattle.bk_spec.specs.Print.{deeper, element_line, base_line, attribute_line, attribute_lines, text_line, comment_line, pi_line, print_nodes}
 use Rattle.bk_spec.specs.DocumentNodes.{Context}
 use Rattle.bk_info.specs.Address.{Address}
 use Rattle.bk_info.specs.declared.attr.Attr.{Attr}
 use Rattle.bk_info.specs.declared.node.Node.{Node}
 use Rattle.bk_info.specs.declared.node.Node.TheVariants as node
-use Rattle.bk_info.specs.Nodes.{attr_in, attrs_in, head_in, node_in, nodes_before, nodes_in}
+use Rattle.bk_info.specs.Nodes.{attr_in, attrs_in, head_in, node_in, nodes_in}
 use Rattle.bk_info.proofs.Theorems.{element_is, text_is, comment_is, pi_is}
 use Rattle.bk_place.specs.Printing.{IsIndent, own_lines}
 

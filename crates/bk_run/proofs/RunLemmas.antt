@@ -1,17 +1,10 @@
 -- Each command has a reply, where the books of the session open.
-use Rattle.std.proofs.Common.{◌≡◌, ◌≢◌, ◌≤◌, ◌+◌, ◌∙◌, ℕ, zero, suc, List, [], ◌∷◌, ◌++◌, Bool, true, false, Some, None, Option, length, take, drop, refl, sym, ap, subst, arith, append_assoc, length-append, bytes_eq, ◌⊎◌, inl, inr, ⊎_elim}
-use Rattle.std.proofs.lemmas.List.{take_at, drop_at}
-use Rattle.std.specs.List.{list_all}
+use Rattle.std.proofs.Common.{◌≡◌, ◌≢◌, ◌∙◌, ℕ, List, [], ◌∷◌, Bool, true, false, Some, None, Option, length, refl, sym, ap, bytes_eq, ◌⊎◌, inl, inr, ⊎_elim}
 use Rattle.std.specs.Cmp.Lexicographic.{bytes_decides}
-use Rattle.xt_spec.specs.Char.{is_char}
-use Rattle.xt_spec.specs.Tree.{Items, nil, element, leaf, Item, element_item, leaf_item, text_item, reference_item, comment_item, pi_item, gap, source_text, close_text}
-use Rattle.xt_tree.specs.Spans.{Stands}
-use Rattle.xt_spec.specs.Paths.{item_in, item_at, replaced_in}
-use Rattle.ed_spec.specs.TextEdit.{text_written, text_edited}
+use Rattle.xt_spec.specs.Tree.{Items, source_text}
 use Rattle.ed_spec.specs.Book.{Book, with_file, Opens}
-use Rattle.ed_spec.specs.Edit.{Edit, IsTextItemOf, range_replaced, Accepts, accepted}
+use Rattle.ed_spec.specs.Edit.{Edit, Accepts}
 use Rattle.ed_spec.specs.Session.{Session, opened, Command, edit, undo, redo, burst, Reply, done, refused, nothing_to_undo, nothing_to_redo, saved_files, AreDifferences, after_edit, after_undo, after_redo, after_burst, Step, Does, accepts, refuses, undoes, undoes_nothing, redoes, redoes_nothing, saves, DoesAll, nothing, then}
-use Rattle.xt_spec.proofs.PathLemmas.{source_text-append}
 use Rattle.ed_laws.specs.Outcome as outcome
 use Rattle.ed_laws.specs.Outcome.{Outcome, HasOutcome}
 use Rattle.ed_laws.proofs.Theorems.{has_an_outcome, an_edited_document_opens}

@@ -10,7 +10,7 @@ use Rattle.xt_read.proofs.Theorems.{one_tree}
 use Rattle.xt_spec.specs.Paths.{item_at}
 use Rattle.ed_spec.specs.TextEdit.{text_edited}
 use Rattle.ed_spec.specs.Edit as spec
-use Rattle.ed_spec.specs.Edit.{Edit, text_edit, IsAt, IsInText, range_replaced, edited, Refuses, no_node, no_text, no_range, no_char, no_room, Accepts, accepted}
+use Rattle.ed_spec.specs.Edit.{Edit, text_edit, IsAt, range_replaced, edited, no_node, no_text, no_range, no_char, no_room, Accepts, accepted}
 use Rattle.ed_text.proofs.Theorems.{document_text_at}
 use Rattle.ed_laws.proofs.Theorems.{an_edited_document_opens}
 use Rattle.ed_session.specs.declared.refusal.Refusal.TheVariants.{NoSuchPlace, WrongKind, BadRange, BadText, TooLarge}
