@@ -1,3 +1,4 @@
 pub mod NodeLemmas
+pub mod HaveViaLemmas
 pub mod InfosetLemmas
 pub mod Theorems

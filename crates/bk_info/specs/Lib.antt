@@ -4,3 +4,4 @@ pub mod Plains
 pub mod Address
 pub mod Within
 pub mod Paths
+pub mod Vias

@@ -14,10 +14,11 @@ mod name;
 mod node;
 mod origin;
 mod plain;
+mod reference;
 #[cfg(test)]
 mod tests;
 
-pub use address::{Address, Siblings};
+pub use address::{Address, Siblings, Via};
 pub use attr::{Attr, How};
 pub use book::{Asked, AskedAs, Reading, Tree};
 pub use context::Context;
@@ -26,3 +27,4 @@ pub use name::NodeName;
 pub use node::Node;
 pub use origin::{Origin, Role};
 pub use plain::{Plain, PlainAttr, infoset};
+pub use reference::Reference;

@@ -1,8 +1,10 @@
-//! A table of nodes and their plain infosets, beside the contracts.
+//! A table of nodes and their plain infosets, and references in their order, beside the contracts.
 //!
 //! An item is told as `(NAME ATTRIBUTES @BASE LANGUAGE ..)`, `[TEXT]`, `!COMMENT!` or `?TARGET DATA?`.
 
-use crate::{Address, Attr, Context, How, Node, NodeName, Origin, Plain, Role, Siblings, infoset};
+use crate::{
+    Address, Attr, Context, How, Node, NodeName, Origin, Plain, Role, Siblings, Via, infoset,
+};
 use bk_name::{Base, Name, uri_of};
 use sqlite_items::Items;
 use std::alloc::{AllocError, Global};
@@ -15,7 +17,8 @@ fn address(alloc: Global, file: &[u8]) -> Result<Address, AllocError> {
     let Ok(name) = Name::read(alloc, file) else {
         return Err(AllocError);
     };
-    Siblings::top(alloc, Origin::file(alloc, name, Role::Document)?)?.address(0)
+    let origin = Origin::file(alloc, name, Role::Document)?;
+    Siblings::top(alloc, origin, Via::none())?.address(0)
 }
 
 fn context(alloc: Global, file: &[u8], lang: &str) -> Result<Context, AllocError> {
@@ -202,6 +205,46 @@ fn elements_keep_their_own(rt: HostRuntime) -> Result<(), Fail> {
         told(alloc, nodes)?.as_str(),
         "?t ?({u}b {}p=1 {v}q=2 @file:///book/b.xml [x]({u}c @file:///book/c.xml de)[yz])",
         "nested"
+    );
+    Ok(())
+}
+
+/// Adds each reference as its file and the indices of its path.
+fn add_references(alloc: Global, out: &mut String, via: &Via) -> Result<(), Fail> {
+    for reference in via.references(alloc)? {
+        out.push_str(reference.origin.file_name())?;
+        for index in reference.path.as_slice() {
+            out.push_str(if *index == 0 { "/0" } else { "/n" })?;
+        }
+        out.push_str(" ")?;
+    }
+    Ok(())
+}
+
+#[test]
+fn the_outermost_reference_comes_first(rt: HostRuntime) -> Result<(), Fail> {
+    let alloc = rt.alloc();
+    let mut out = String::new(alloc);
+    let outer = address(alloc, b"b.xml")?;
+    add_references(alloc, &mut out, outer.via())?;
+    assert_eq!(rt; out.as_str(), "", "of the root");
+
+    let Ok(file) = Name::read(alloc, b"c.xml") else {
+        return Ok(());
+    };
+    let origin = Origin::file(alloc, file, Role::Entity)?;
+    let element = Siblings::top(alloc, origin, Via::through(&outer)?)?.address(1)?;
+    let inner = Siblings::within(alloc, &element)?.address(0)?;
+    add_references(alloc, &mut out, inner.via())?;
+    assert_eq!(rt; out.as_str(), "b.xml/0 ", "of what an element holds");
+
+    let shown = Via::through(&inner)?;
+    let mut out = String::new(alloc);
+    add_references(alloc, &mut out, &shown.share()?)?;
+    assert_eq!(rt;
+        out.as_str(),
+        "b.xml/0 c.xml/n/0 ",
+        "of what a reference shows"
     );
     Ok(())
 }

@@ -5,6 +5,7 @@ mod PlaceLemmas
 mod ElementLemmas
 mod ItemLemmas
 mod PathLemmas
+mod ViaLemmas
 mod TagLemmas
 mod DocumentLemmas
 mod AroundLemmas

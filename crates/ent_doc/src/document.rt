@@ -8,13 +8,14 @@ ghost use Rattle.xt_tree.specs.Places.{marks_of, AreInPlace};
 ghost use Rattle.bk_spec.specs.NodePaths.{node_paths};
 ghost use Rattle.bk_info.specs.Nodes.{nodes_in};
 ghost use Rattle.bk_info.specs.Paths.{paths_in};
+ghost use Rattle.bk_info.specs.Vias.{HaveVia};
 ghost use Rattle.ent_doc.specs.Faults.{IsNodesFault};
 
 use crate::fault::OpenFault;
 use crate::source::Source;
 use crate::tree::nodes_of;
 use crate::work::Work;
-use bk_info::{Context, Node, Origin, Role, Siblings};
+use bk_info::{Context, Node, Origin, Role, Siblings, Via};
 use bk_name::{Base, Name, uri_of};
 use sqlite_items::Items;
 use std::alloc::{AllocError, Global};
@@ -37,7 +38,8 @@ fn top(alloc: Global, file: &Name) -> Result<Context, AllocError>
     Context::new(alloc, scope, uri, SharedText::from_str(alloc, "")?)
 }
 
-/// The nodes that the items of a document give, each with the path of its item, or its first fault in document order.
+/// The nodes that the items of a document give, each with the path of its item and no references through which it came, or its
+/// first fault in document order.
 ///
 /// Nothing is said of items that have no content by themselves, as those with a DOCTYPE.
 pub fn document_nodes(
@@ -49,12 +51,13 @@ pub fn document_nodes(
     requires place { AreInPlace text.now 0 (marks_of items.now) (length text.now) }
     ensures value { IfOk result (λ nodes. (content : Content) → HasContent (items_in text.now items.now) content → nodes_of file.now (top_context file.now) 0 content ≡ Ok (nodes_in nodes)) }
     ensures paths { IfOk result (λ nodes. (content : Content) → HasContent (items_in text.now items.now) content → paths_in nodes ≡ node_paths [] 0 (items_in text.now items.now)) }
+    ensures via { IfOk result (HaveVia []) }
     ensures fault { IfErr result (IsNodesFault file.now (items_in text.now items.now)) }
 {
     let source = Source { file, text };
     let context = top(alloc, file)?;
     let origin = Origin::file(alloc, file.share()?, Role::Document)?;
-    let siblings = Siblings::top(alloc, origin)?;
+    let siblings = Siblings::top(alloc, origin, Via::none())?;
     let mut work = Work::new(alloc)?;
     nodes_of(alloc, &source, &mut work, &context, &siblings, items)
 }

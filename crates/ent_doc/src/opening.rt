@@ -8,6 +8,7 @@ ghost use Rattle.xt_tree.specs.Places.{marks_of, AreInPlace};
 ghost use Rattle.bk_spec.specs.NodePaths.{node_paths};
 ghost use Rattle.bk_info.specs.Nodes.{nodes_in};
 ghost use Rattle.bk_info.specs.Paths.{paths_in};
+ghost use Rattle.bk_info.specs.Vias.{HaveVia};
 ghost use Rattle.ent_doc.specs.Opening.{IsReadingFault, IsItemsFault, IsOpenFault};
 
 use crate::document::document_nodes;
@@ -74,6 +75,7 @@ fn opened_nodes(
     requires place { AreInPlace text.now 0 (marks_of items.now) (length text.now) }
     ensures value { IfOk result (λ nodes. IsOpen file.now text.now (items_in text.now items.now) (nodes_in nodes)) }
     ensures paths { IfOk result (λ nodes. paths_in nodes ≡ node_paths [] 0 (items_in text.now items.now)) }
+    ensures via { IfOk result (HaveVia []) }
     ensures fault { IfErr result (IsItemsFault file.now (items_in text.now items.now)) }
 {
     if !has_content(text, items) {
@@ -97,6 +99,7 @@ pub fn open_document<L: Ledger>(
     ensures value { IfOk result (λ opened. IsOpen file.now bytes.now (items_in bytes.now opened.items) (nodes_in opened.nodes)) }
     ensures place { IfOk result (λ opened. AreInPlace bytes.now 0 (marks_of opened.items) (length bytes.now)) }
     ensures paths { IfOk result (λ opened. paths_in opened.nodes ≡ node_paths [] 0 (items_in bytes.now opened.items)) }
+    ensures via { IfOk result (λ opened. HaveVia [] opened.nodes) }
     ensures fault { IfErr result (IsOpenFault file.now bytes.now) }
     ensures count { steps.new ≡ steps.old + length bytes.now }
 {

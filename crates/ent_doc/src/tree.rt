@@ -7,6 +7,7 @@ ghost use Rattle.xt_spec.specs.Reading.{document};
 ghost use Rattle.bk_spec.specs.Node.{owned, node_count};
 ghost use Rattle.bk_spec.specs.NodePaths.{path_below};
 ghost use Rattle.bk_info.specs.Nodes.{nodes_in};
+ghost use Rattle.bk_info.specs.Vias.{HaveVia};
 ghost use Rattle.ent_doc.specs.Steps.{Gives, GivesFault, HavePaths, HasPaths, AreTagsInPlace, some_node};
 
 use crate::element::own_of;
@@ -47,6 +48,7 @@ fn element_node(
     ensures value { IfOk result (λ node. (close : Option (List ℕ)) (rest : TreeItems) → Gives source.now.file.now context.now (element (at_span source.now.text.now tag.now.span) (items_in source.now.text.now kids.now) close rest) rest work.old.count work.new.count (node ∷ [])) }
     ensures count { IfOk result (λ node. work.new.count ≡ work.old.count + node_count (nodes_in (node ∷ []))) }
     ensures paths { IfOk result (λ node. (close : Option (List ℕ)) (rest : TreeItems) (outer : List ℕ) (index : ℕ) → address.path ≡ path_below outer index → HasPaths outer index (element (at_span source.now.text.now tag.now.span) (items_in source.now.text.now kids.now) close rest) rest (suc index) (node ∷ [])) }
+    ensures via { IfOk result (λ node. HaveVia address.via (node ∷ [])) }
     ensures fault { IfErr result (λ fault. (close : Option (List ℕ)) (rest : TreeItems) → GivesFault source.now.file.now context.now (element (at_span source.now.text.now tag.now.span) (items_in source.now.text.now kids.now) close rest) work.old.count fault) }
 {
     let qname = source.text_at(tag.name)?;
@@ -78,6 +80,7 @@ fn node_of(
     ensures value { IfOk result (λ node. (rest : TreeItems) → Gives source.now.file.now context.now (before (item_of source.now.text.now item.now) rest) rest work.old.count work.new.count (some_node node)) }
     ensures count { IfOk result (λ node. work.new.count ≡ work.old.count + node_count (nodes_in (some_node node))) }
     ensures paths { IfOk result (λ node. (rest : TreeItems) (outer : List ℕ) (index : ℕ) → address.path ≡ path_below outer index → HasPaths outer index (before (item_of source.now.text.now item.now) rest) rest (suc index) (some_node node)) }
+    ensures via { IfOk result (λ node. HaveVia address.via (some_node node)) }
     ensures fault { IfErr result (λ fault. (rest : TreeItems) → GivesFault source.now.file.now context.now (before (item_of source.now.text.now item.now) rest) work.old.count fault) }
 {
     match item {
@@ -112,6 +115,7 @@ fn kids_of(
     ensures value { IfOk result (λ nodes. Gives source.now.file.now context.now (items_in source.now.text.now items.now) nil work.old.count work.new.count nodes) }
     ensures count { IfOk result (λ nodes. work.new.count ≡ work.old.count + node_count (nodes_in nodes)) }
     ensures paths { IfOk result (HavePaths address.now.path (items_in source.now.text.now items.now)) }
+    ensures via { IfOk result (HaveVia address.now.via) }
     ensures fault { IfErr result (GivesFault source.now.file.now context.now (items_in source.now.text.now items.now) work.old.count) }
 {
     if items.is_empty() {
@@ -136,6 +140,7 @@ pub(crate) fn nodes_of(
     ensures value { IfOk result (λ nodes. Gives source.now.file.now context.now (items_in source.now.text.now items.now) nil work.old.count work.new.count nodes) }
     ensures count { IfOk result (λ nodes. work.new.count ≡ work.old.count + node_count (nodes_in nodes)) }
     ensures paths { IfOk result (HavePaths siblings.now.path (items_in source.now.text.now items.now)) }
+    ensures via { IfOk result (HaveVia siblings.now.via) }
     ensures fault { IfErr result (GivesFault source.now.file.now context.now (items_in source.now.text.now items.now) work.old.count) }
 {
     let mut nodes = Vec::with_capacity(alloc, items.len())?;

@@ -8,9 +8,10 @@ use Rattle.bk_info.specs.Address.{Address}
 use Rattle.bk_info.specs.Nodes.{nodes_in, head_in}
 use Rattle.ent_doc.specs.Steps.{Gives, GivesFault, HasPaths, element_in, some_node}
 use Rattle.ent_doc.proofs.ElementLemmas.{element_gives, own_fails, room_fails, kids_fail}
-use Rattle.bk_info.proofs.Theorems.{element_is, element_paths}
+use Rattle.bk_info.proofs.Theorems.{element_is, element_paths, element_has_via, none_have_via}
 use Rattle.ent_doc.proofs.ItemLemmas.{kids_in_place, kids_fewer, item_fewer, of_element, of_text, of_comment, of_pi, next_in_place, items_step, items_fail, items_begin, items_end, count_step}
 use Rattle.ent_doc.proofs.PathLemmas.{element_has_paths, paths_begin, paths_step, paths_end}
+use Rattle.ent_doc.proofs.ViaLemmas.{vias_step, same_via}
 use Rattle.ent_doc.proofs.tree.+tree.Goals as goal
 
 pub element_node-returns-in_err-own-clause-fault : goal.element_node-returns-in_err-own-clause-fault
@@ -85,6 +86,7 @@ nodes_of-loop-index-init t c = record {
   tags = c.requires.tags;
   gives = items_begin c.args.source.now.text.now c.args.source.now.file.now c.args.context.now c.args.items.now c.args.work.now.count c.in_ok-nodes.nodes.items c.in_ok-nodes.ensures.items;
   paths = paths_begin (items_in c.args.source.now.text.now c.args.items.now) c.args.siblings.now.path c.in_ok-nodes.nodes.items c.in_ok-nodes.ensures.items;
+  via = none_have_via c.args.siblings.now.via c.in_ok-nodes.nodes.items c.in_ok-nodes.ensures.items;
   counted = rw c.in_ok-nodes.ensures.items (omega arith);
 }
 
@@ -108,6 +110,7 @@ nodes_of-loop-index-preserved t c = record {
   paths = paths_step c.args.source.now.text.now c.args.source.now.file.now c.args.context.now c.args.items.now c.loop-index.index c.index-items-index.result c.args.work.now.count c.loop-index.work.count c.loop-index.nodes.items _ c.put.new.nodes.items c.args.siblings.now.path
       c.loop-index-test.true c.index-items-index.is c.in_ok-put.ensures.value c.loop-index.invariant.gives c.loop-index.invariant.paths
       (λ rest. c.in_ok-node_of.ensures.paths rest c.args.siblings.now.path c.loop-index.index (ap (λ (a : Address). a.path) c.in_ok-address.ensures.value));
+  via = vias_step c.args.siblings.now.via c.in_ok-address.address c.loop-index.nodes.items _ c.put.new.nodes.items c.in_ok-put.ensures.value (ap (λ (a : Address). a.via) c.in_ok-address.ensures.value) c.loop-index.invariant.via c.in_ok-node_of.ensures.via;
   counted = count_step c.args.work.now.count c.loop-index.work.count c.node_of.new.work.count c.loop-index.nodes.items _ c.put.new.nodes.items c.in_ok-put.ensures.value c.loop-index.invariant.counted c.in_ok-node_of.ensures.count;
 }
 
@@ -149,3 +152,11 @@ pub node_of-returns-in_ok-pi_node-in-Pi-clause-paths : goal.node_of-returns-in_o
 node_of-returns-in_ok-pi_node-in-Pi-clause-paths t c rest outer index same =
     of_pi c.args.source.now.text.now (λ (items : Items). HasPaths outer index items rest (suc index) (c.in_ok-pi_node-in-Pi.field-0 ∷ [])) rest c.args.item.now c.in-Pi.span c.in-Pi.is
     (c.in_ok-pi_node-in-Pi.ensures.paths outer index rest same)
+
+pub nodes_of-returns-clause-via : goal.nodes_of-returns-clause-via
+nodes_of-returns-clause-via t c =
+    same_via c.args.siblings.now.via c.loop-index.nodes.items c.from_vec.result (c.from_vec.ensures ∙ c.shrink_to_fit.ensures.items) c.loop-index.invariant.via
+
+pub element_node-returns-clause-via : goal.element_node-returns-clause-via
+element_node-returns-clause-via t c =
+    element_has_via c.in_ok-own.own.name c.in_ok-own.own.attrs c.in_ok-own.own.context c.in_ok-kids.kids c.args.address c.in_ok-kids.ensures.via

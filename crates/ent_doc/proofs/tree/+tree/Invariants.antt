@@ -3,6 +3,7 @@ use Rattle.xt_tree.specs.Meaning.{items_in}
 use Rattle.xt_tree.specs.Places.{marks_in, marks_of}
 use Rattle.bk_spec.specs.Node.{node_count}
 use Rattle.bk_info.specs.Nodes.{nodes_in}
+use Rattle.bk_info.specs.Vias.{HaveVia}
 use Rattle.ent_doc.specs.Steps.{Gives, HasPaths, AreTagsInPlace}
 use Rattle.ent_doc.proofs.tree.+tree.Given as goal
 
@@ -12,6 +13,7 @@ invariant-nodes_of-loop-index l = record {
   tags : AreTagsInPlace l.source.text.now (marks_of (drop l.index l.items));
   gives : Gives l.source.file.now l.context (items_in l.source.text.now l.items) (items_in l.source.text.now (drop l.index l.items)) l.fn.work.count l.work.count l.nodes.items;
   paths : HasPaths l.siblings.path 0 (items_in l.source.text.now l.items) (items_in l.source.text.now (drop l.index l.items)) l.index l.nodes.items;
+  via : HaveVia l.siblings.via l.nodes.items;
   counted : l.work.count ≡ l.fn.work.count + node_count (nodes_in l.nodes.items);
 }
 
