@@ -15,7 +15,11 @@ const FEW: usize = 16;
 fn is_same(a: &NodeName, b: &NodeName) -> bool
     ensures value { result ≡ (bytes_eq a.now.space b.now.space && bytes_eq a.now.local b.now.local) }
 {
-    a.space() == b.space() && a.local() == b.local()
+    // Most names differ in their local part.
+    if a.local() != b.local() {
+        return false;
+    }
+    a.space() == b.space()
 }
 
 /// Whether an attribute has this name.

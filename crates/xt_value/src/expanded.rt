@@ -1,5 +1,6 @@
 //! Expanded names. Namespaces in XML 1.0, sections 2.1, 5 and 6.2.
 ghost use Rattle.std.specs.Prelude.{◌≡◌, [], false, Some, None, unwrap_or, IfOk, IsErrOf};
+ghost use Rattle.std.specs.List.{position_or_len};
 ghost use Rattle.std.specs.Option.{option_copied};
 ghost use Rattle.xt_spec.specs.Namespace as spec;
 
@@ -73,14 +74,23 @@ impl From<AllocError> for NameFault {
     }
 }
 
+/// The place of the first colon, or the length. Names are short, so bytes are looked at one by one.
+fn colon_at(name: &[u8]) -> usize
+    ensures value { result ≡ position_or_len spec.is_colon name.now }
+{
+    name.iter().take_while(|b| **b != b':').count()
+}
+
 /// The prefix of a name, where it has one, and its local part.
 pub(crate) fn split_qname(qname: &str) -> (Option<&str>, &str)
     ensures prefix { option_copied result.0 ≡ spec.prefix_of qname.now }
     ensures local { result.1.now ≡ spec.local_of qname.now }
 {
-    match qname.split_once(':') {
-        Some((prefix, local)) => (Some(prefix), local),
-        None => (None, qname),
+    let at = colon_at(qname.as_bytes());
+    if at == qname.len() {
+        (None, qname)
+    } else {
+        (Some(&qname[..at]), &qname[at + 1..])
     }
 }
 
