@@ -11,6 +11,7 @@ from pathlib import Path
 import documents
 import model
 import rounds
+import urls
 from model import GATE, JOURNAL, Fault, want
 
 ROOT = "book.xml"
@@ -96,7 +97,7 @@ def recovery_case(rng, most, count):
 
 def printed(book):
     """The printed tree of the root."""
-    return documents.printed(book[ROOT.encode()].decode(), ROOT)
+    return documents.printed(book[ROOT.encode()].decode(), ROOT, urls.join)
 
 
 def check_folder(case, folder, saves, program):

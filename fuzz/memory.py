@@ -12,9 +12,11 @@ import subprocess
 import tempfile
 from pathlib import Path
 
+import documents
+import edits
 import model
 import rounds
-from kill import check_folder, recovery_case, save_case, saves_in
+from kill import Case, check_folder, recovery_case, save_case, saves_in
 
 SOURCE = Path(__file__).resolve().parent / "refused/refused.c"
 ROOT = "book.xml"
@@ -33,9 +35,42 @@ LIBRARY = built()
 ENOUGH = 25  # so many runs in a row that need no such request: none needs a later one
 
 
+MANY = "".join(f" p:n{number}='{number}'" for number in range(20))  # so many that their names are looked up in a set
+WHOLE = (
+    "\ufeff<?xml version='1.0' encoding='utf-8'?>\r\n<!-- é --><?p d?><a xmlns='u:1' xmlns:p='u:2' xml:base='b/' xml:lang='de'" + MANY + ">"
+    "t&amp;中<![CDATA[<]]>\r\n<p:b xml:id=' x  y ' n=\"&lt;&#x3e;\"/><c xmlns='' xml:base='../c.xml'><?q r?>x</c></a>\n"
+)
+MOST = 300
+
+
+def small_document(rng):
+    """A document that opens, of at most so many characters."""
+    while True:
+        text = edits.document(rng)
+        if len(text) <= MOST:
+            return text
+
+
+def document_case(rng):
+    """An edit of a text, where there is one, and a save, over a document with whatever documents hold."""
+    text = WHOLE if rng.random() < 0.3 else small_document(rng)
+    places = [place for place, node in edits.places_of(documents.nodes_of(text)) if node.kind == "text"]
+    files = {ROOT.encode(): text.encode()}
+    if not places:
+        return Case(files, b"burst\n", [], [model.book_of(files)])
+    place = rng.choice(places)
+    reply, after = documents.edited(text, place, 0, 1, "new")
+    model.want("the model's reply", reply, "ok")
+    script = f"text /{'/'.join(map(str, place))} 0 1 \"new\"\nburst\n"
+    return Case(files, script.encode(), [ROOT.encode()], [model.book_of(files), {ROOT.encode(): after.encode()}])
+
+
 def some_case(rng):
-    """A small save, or a recovery of few files: each of its requests is refused once."""
-    return save_case(rng, 40) if rng.random() < 0.5 else recovery_case(rng, 40, rng.randint(0, 4))
+    """A small save, a recovery of few files, or a save of a document of any kind: each of its requests is refused once."""
+    kind = rng.random()
+    if kind < 0.3:
+        return save_case(rng, 40)
+    return recovery_case(rng, 40, rng.randint(0, 4)) if kind < 0.6 else document_case(rng)
 
 
 def refused(case, folder, number, program):

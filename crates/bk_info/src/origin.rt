@@ -53,6 +53,15 @@ impl Origin {
         })
     }
 
+    /// The nodes of an internal entity, and the file that holds the reference. The one error is want of memory.
+    pub fn within_entity(alloc: Global, file: Name, entity: SharedText) -> Result<Origin, AllocError>
+        ensures value { IfOk result (λ origin. origin ≡ from_entity file entity) }
+    {
+        Ok(Origin {
+            source: Shared::new(alloc, Source::Entity(file, entity))?,
+        })
+    }
+
     /// The name of the file; for an entity, of the one that holds the reference.
     pub fn file_name(&self) -> &str
         ensures value { result.now ≡ file_of self.now }

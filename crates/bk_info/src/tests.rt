@@ -12,12 +12,17 @@ use std::test::Fail;
 use xt_table::{Seq, SharedText, Txt};
 use xt_value::Scope;
 
+/// A name of these tests, which are all names of files.
+fn file_name(alloc: Global, file: &[u8]) -> Result<Name, AllocError> {
+    match Name::read(alloc, file) {
+        Ok(name) => Ok(name),
+        Err(_) => Err(AllocError),
+    }
+}
+
 /// The first item of a file.
 fn address(alloc: Global, file: &[u8]) -> Result<Address, AllocError> {
-    let Ok(name) = Name::read(alloc, file) else {
-        return Err(AllocError);
-    };
-    let origin = Origin::file(alloc, name, Role::Document)?;
+    let origin = Origin::file(alloc, file_name(alloc, file)?, Role::Document)?;
     Siblings::top(alloc, origin, Via::none())?.address(0)
 }
 
@@ -229,10 +234,7 @@ fn the_outermost_reference_comes_first(rt: HostRuntime) -> Result<(), Fail> {
     add_references(alloc, &mut out, outer.via())?;
     assert_eq!(rt; out.as_str(), "", "of the root");
 
-    let Ok(file) = Name::read(alloc, b"c.xml") else {
-        return Ok(());
-    };
-    let origin = Origin::file(alloc, file, Role::Entity)?;
+    let origin = Origin::file(alloc, file_name(alloc, b"c.xml")?, Role::Entity)?;
     let element = Siblings::top(alloc, origin, Via::through(&outer)?)?.address(1)?;
     let inner = Siblings::within(alloc, &element)?.address(0)?;
     add_references(alloc, &mut out, inner.via())?;
@@ -246,5 +248,20 @@ fn the_outermost_reference_comes_first(rt: HostRuntime) -> Result<(), Fail> {
         "b.xml/0 c.xml/n/0 ",
         "of what a reference shows"
     );
+    Ok(())
+}
+
+#[test]
+fn an_origin_is_a_file_in_its_role_or_an_entity(rt: HostRuntime) -> Result<(), Fail> {
+    let alloc = rt.alloc();
+    let file = Origin::file(alloc, file_name(alloc, b"b.xml")?, Role::Text)?;
+    assert_eq!(rt; file.file_name(), "b.xml");
+    assert_eq!(rt; file.role(), Some(Role::Text));
+    assert_eq!(rt; file.entity(), None);
+    let entity = SharedText::from_str(alloc, "e")?;
+    let inner = Origin::within_entity(alloc, file_name(alloc, b"c.xml")?, entity)?;
+    assert_eq!(rt; inner.file_name(), "c.xml");
+    assert_eq!(rt; inner.role(), None);
+    assert_eq!(rt; inner.entity(), Some("e"));
     Ok(())
 }

@@ -58,6 +58,10 @@ fn scripts_ask_for_these_commands(rt: HostRuntime) -> Result<(), Fail> {
         ),
         ("text /1 0 0 \"\\n\\t\\r\\u{0}\t\"", "/1 0 0 \n\t\r\0\t;"),
         ("text /1 0 0 \"\\u{00000a}\"", "/1 0 0 \n;"),
+        (
+            "text /1 0 0 \"\\u{E000}\\u{10FFFF}\"",
+            "/1 0 0 \u{E000}\u{10FFFF};",
+        ),
     ] {
         let commands = read_script(alloc, script.as_bytes())?;
         assert_eq!(rt;
@@ -105,6 +109,7 @@ fn lines_without_a_reading_have_their_number(rt: HostRuntime) -> Result<(), Fail
         ("text /1 0 0 \"\\u{}\"", 1),
         ("text /1 0 0 \"\\u{0000041}\"", 1),
         ("text /1 0 0 \"\\u{D800}\"", 1),
+        ("text /1 0 0 \"\\u{DFFF}\"", 1),
         ("text /1 0 0 \"\\u{110000}\"", 1),
         ("text /1 0 0 \"\\u41\"", 1),
         ("text /1 0 0 \"a\rb\"", 1),

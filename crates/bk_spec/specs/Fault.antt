@@ -5,14 +5,14 @@
 use Rattle.std.specs.Prelude.{List, ℕ, ◌++◌, codes}
 use Rattle.bk_spec.specs.IncludeKind.{IncludeKind, kind_name}
 
--- In the order in which a file is asked: it isn't there; it is too long, or gives too many nodes; its bytes are not UTF-8, or
--- it declares another encoding; it is not well-formed; an element stands too deep. Then what isn't built yet: a DOCTYPE, other
--- references than the five, inclusion. Then declarations that aren't read, and a catalog that is wrong. Then, of a reference:
--- the URI isn't in the book; the entity isn't declared, stands within itself, is external and in an attribute, or isn't
--- parsed. Then, element by element: a namespace declaration that isn't allowed; a prefix that isn't bound; two attributes of
--- one expanded name; a base, or another reference, that doesn't join. Then, of an inclusion: the element is wrong; its pointer
--- has no reading; it stands within itself; it finds nothing and has no fallback; in place of the document element it doesn't
--- give one element.
+-- Grouped by what they are about; in which order an opening asks is said where it is defined (`Opening`). Of a file: it isn't
+-- there; it is too long, or gives too many nodes; its bytes are not UTF-8, or it declares another encoding; it is not
+-- well-formed; an element stands too deep. Then what isn't built yet: a DOCTYPE, other references than the five, inclusion. Then
+-- declarations that aren't read, and a catalog that is wrong. Then, of a reference: the URI isn't in the book; the entity isn't
+-- declared, stands within itself, is external and in an attribute, or isn't parsed. Then, of an element: a namespace declaration
+-- that isn't allowed; a prefix that isn't bound; two attributes of one expanded name; a base, or another reference, that doesn't
+-- join. Then, of an inclusion: the element is wrong; its pointer has no reading; it stands within itself; it finds nothing and
+-- has no fallback; in place of the document element it doesn't give one element.
 pub data Fault : Type 0 where
   missing : (file : List ℕ) → Fault
   too_large : (file : List ℕ) → Fault

@@ -1,6 +1,7 @@
 //! Runs over a disk in memory, whose answers come from the standards and from this project's rules, and over real files.
 ghost use Rattle.std.specs.Prelude.{◌≡◌};
 
+mod closed;
 mod edits;
 mod faults;
 mod journals;

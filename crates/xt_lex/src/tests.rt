@@ -183,7 +183,8 @@ fn references_stand_for_characters(rt: HostRuntime) {
 #[test]
 fn attributes_stand_where_their_spans_say(rt: HostRuntime) {
     let text = "<p\n n = 'é' m=\"\"/>";
-    if text.is_char_boundary(1) && text.is_char_boundary(2) && text.len() == 20 {
+    assert_eq!(rt; text.len(), 19);
+    if text.is_char_boundary(1) && text.is_char_boundary(2) && text.len() == 19 {
         assert!(rt; name_at(text, 1).is_some_and(|s| (s.from, s.to) == (1, 2)));
         assert!(rt;
             next_attribute(text, 2).is_some_and(|a| (a.whole.from, a.whole.to) == (2, 12)
@@ -191,5 +192,7 @@ fn attributes_stand_where_their_spans_say(rt: HostRuntime) {
                 && (a.value.from, a.value.to) == (8, 12))
         );
         assert!(rt; next_attribute(text, 1).is_none());
+    } else {
+        assert!(rt; false, "no place of the text is one");
     }
 }

@@ -55,6 +55,14 @@ const EDITS: &[Edit] = &[
     },
     Edit {
         root: "<a>x</a>",
+        script: "text /1/1 0 1 \"\\u{FFFD}\\u{10000}\\u{E000}\"\nburst",
+        replies: "ok\nburst 1\n",
+        tree: "  text \"\u{FFFD}\u{10000}\u{E000}\" in book.xml\n",
+        after: "<a>\u{FFFD}\u{10000}\u{E000}</a>",
+        calls: 14,
+    },
+    Edit {
+        root: "<a>x</a>",
         script: "text /1/1 0 1 \"\\\"\\\\\\n\\t\\r\\u{41}&<>\\u{feff}]\"\nburst",
         replies: "ok\nburst 1\n",
         tree: "  text \"\\\"\\\\\\n\\t\\rA&<>\u{FEFF}]\" in book.xml\n",

@@ -1,5 +1,5 @@
 //! What a run finds of an earlier one: the journal of a save, and the commit marker.
-use super::{Case, HEAD, Want, book_file, check, copy, opened_again, over};
+use super::{Case, HEAD, Want, book_file, check, copy, opened_again, over, ran};
 use bk_desk::{DeskName, MemDesk};
 use std::test::Fail;
 
@@ -42,6 +42,9 @@ fn a_damaged_journal_under_an_open_marker_is_a_fault(rt: HostRuntime) -> Result<
             ..absent
         };
         check(&rt, alloc, &case, &want, "a journal")?;
+        let desk = ran(alloc, &case)?.desk;
+        assert!(rt; desk.file(&DeskName::Journal) == case.journal);
+        assert!(rt; desk.file(&DeskName::Gate) == case.gate);
     }
     Ok(())
 }

@@ -117,7 +117,7 @@ fn a_million_nodes_open_and_one_more_do_not(rt: HostRuntime) -> Result<(), Fail>
     )
 }
 
-/// A run of five commands over a root: what is told, in parts, and the root afterwards.
+/// A run of six commands over a root: what is told, in parts, and the root afterwards.
 fn check_edits<'a>(
     rt: &impl Abort,
     alloc: Global,
@@ -129,14 +129,14 @@ fn check_edits<'a>(
     let want = Want {
         status: 1,
         told,
-        calls: 17,
+        calls: 18,
         root: Some(after.as_bytes()),
     };
     check(rt, alloc, &over(root, script), &want, "the greatest")
 }
 
 // `<a>x<b c='`, 4,194,281 bytes of a value, and `'>z</b></a>` are 4,194,302 bytes: two more are the most. An escape counts
-// as it is written, and a text that has a character which no document may hold is refused for that first.
+// as it is written, and a range that is none, or a character that no document may hold, is refused for that first.
 #[test]
 fn an_edit_leaves_at_most_4194304_bytes(rt: HostRuntime) -> Result<(), Fail> {
     let alloc = rt.alloc();
@@ -144,8 +144,8 @@ fn an_edit_leaves_at_most_4194304_bytes(rt: HostRuntime) -> Result<(), Fail> {
     let root = repeated(alloc, "<a>x<b c='", value.as_str(), 1, "'>z</b></a>")?;
     let edited = repeated(alloc, "<a>xyz<b c='", value.as_str(), 1, "'>z</b></a>")?;
     let script =
-        "text /1/1 1 1 \"xyz\"\ntext /1/1 1 1 \"&\"\ntext /1/1 0 1 \"\\u{0}xyz\"\ntext /1/1 1 1 \"yz\"\nburst\n";
-    let replies = "refused TooLarge\nrefused TooLarge\nrefused BadText\nok\nburst 1\n";
+        "text /1/1 1 1 \"xyz\"\ntext /1/1 1 1 \"&\"\ntext /1/1 1 0 \"xyz\"\ntext /1/1 0 1 \"\\u{0}xyz\"\ntext /1/1 1 1 \"yz\"\nburst\n";
+    let replies = "refused TooLarge\nrefused TooLarge\nrefused BadRange\nrefused BadText\nok\nburst 1\n";
     let told = [
         replies,
         HEAD,

@@ -1,7 +1,8 @@
 //! Files of the current folder.
 use super::{book_file, joined, run_words};
 use crate::real::RealDesk;
-use bk_desk::{Desk, DeskErr, DeskName, Got, MemSource};
+use bk_desk::{Desk, DeskErr, DeskName, Got, StdSource};
+use std::fs::File;
 use std::io;
 use std::test::Fail;
 
@@ -42,13 +43,12 @@ fn real_files_are_written_and_read_back(rt: HostRuntime) -> Result<(), Fail> {
     Ok(())
 }
 
-/// A run on a file of the current folder, and what it told.
+/// A run on a file of the current folder, whose script is another one, and what it told.
 fn told_of(rt: &HostRuntime, word: &str, script: &str) -> Result<(u8, Vec<u8>), Fail> {
     let alloc = rt.alloc();
     let mut told = Vec::new(alloc);
     let mut desk = RealDesk::new(rt, &mut told, alloc);
-    let bytes = Vec::from_slice(alloc, script.as_bytes())?;
-    let mut source = MemSource::new(bytes, 4096, Vec::new(alloc));
+    let mut source = StdSource::new(File::open(rt, script)?);
     let status = run_words(alloc, &[word], &mut source, &mut desk)?;
     drop(desk);
     Ok((status, told))
@@ -60,9 +60,9 @@ fn a_run_saves_a_real_file(rt: HostRuntime) -> Result<(), Fail> {
     let alloc = rt.alloc();
     let word = "real-run-test.xml";
     let file = book_file(alloc, word)?;
+    let commands = book_file(alloc, "real-run-test.txt")?;
     let mut desk = RealDesk::new(&rt, io::writer(&rt), alloc);
     desk.write_file(&file, b"<a>old</a>")?;
-    desk.sync()?;
     let tree =
         "element a in real-run-test.xml\n  base file:///book/real-run-test.xml\n  text \"new\" in real-run-test.xml\n";
     for (script, replies) in [
@@ -70,7 +70,9 @@ fn a_run_saves_a_real_file(rt: HostRuntime) -> Result<(), Fail> {
         ("burst\n", "burst 0\n"),
         ("", ""),
     ] {
-        let (status, told) = told_of(&rt, word, script)?;
+        desk.write_file(&commands, script.as_bytes())?;
+        desk.sync()?;
+        let (status, told) = told_of(&rt, word, "real-run-test.txt")?;
         assert_eq!(rt; status, 0, "at {script}");
         assert!(rt; told == joined(alloc, &[replies, tree])?, "at {script}");
         assert!(rt; reads(&mut desk, &file, 10, b"<a>new</a>")?, "at {script}");
@@ -80,7 +82,17 @@ fn a_run_saves_a_real_file(rt: HostRuntime) -> Result<(), Fail> {
         );
     }
     desk.remove(&file)?;
+    desk.remove(&commands)?;
     desk.remove(&DeskName::Journal)?;
     desk.sync()?;
+    Ok(())
+}
+
+// A folder can be opened, and a read of it fails.
+#[test]
+fn a_script_that_cannot_be_read_is_told(rt: HostRuntime) -> Result<(), Fail> {
+    let (status, told) = told_of(&rt, "book.xml", ".")?;
+    assert_eq!(rt; status, 5);
+    assert!(rt; told.as_slice() == b"fault source\n");
     Ok(())
 }

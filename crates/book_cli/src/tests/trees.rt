@@ -1,4 +1,4 @@
-use super::{Case, Want, check, over};
+use super::{Want, check, over};
 use std::test::Fail;
 
 /// Documents, and their printed trees.
@@ -73,82 +73,6 @@ const DOCUMENTS: &[(&str, &str)] = &[
     ),
 ];
 
-/// Files that do not open, and what is told of each.
-const CLOSED: &[(&[u8], &str)] = &[
-    (b"", "fault NotWellFormed book.xml\n"),
-    (b"a", "fault NotWellFormed book.xml\n"),
-    (b"<a>", "fault NotWellFormed book.xml\n"),
-    (b"<a></b>", "fault NotWellFormed book.xml\n"),
-    (b"<a/><b/>", "fault NotWellFormed book.xml\n"),
-    (b"<a b='1' b='2'/>", "fault NotWellFormed book.xml\n"),
-    (b"<a b='<'/>", "fault NotWellFormed book.xml\n"),
-    (b"<a b=1/>", "fault NotWellFormed book.xml\n"),
-    (b"<a>]]></a>", "fault NotWellFormed book.xml\n"),
-    (b"<a>&#0;</a>", "fault NotWellFormed book.xml\n"),
-    (b"<a>\xEF\xBF\xBE</a>", "fault NotWellFormed book.xml\n"),
-    (b"<1/>", "fault NotWellFormed book.xml\n"),
-    (b"<a:b:c/>", "fault NotWellFormed book.xml\n"),
-    (b"<a><!--c--->\n</a>", "fault NotWellFormed book.xml\n"),
-    (
-        b"<a><?xml version='1.0'?></a>",
-        "fault NotWellFormed book.xml\n",
-    ),
-    (b"<a/>&x;", "fault NotWellFormed book.xml\n"),
-    (b"<a>\xFF</a>", "fault Encoding book.xml\n"),
-    (
-        b"<?xml version=\"1.0\" encoding=\"ISO-8859-1\"?><a/>",
-        "fault Encoding book.xml\n",
-    ),
-    (b"<a>&x;</a>", "fault NotYet book.xml\n"),
-    (b"<a b='&x;'/>", "fault NotYet book.xml\n"),
-    (b"<!DOCTYPE a><a/>", "fault NotYet book.xml\n"),
-    (
-        b"<!DOCTYPE a [<!ENTITY x 'y'>]><p:a>&x;</p:a>",
-        "fault NotYet book.xml\n",
-    ),
-    (b"<p:a><b>&x;</b></p:a>", "fault NotYet book.xml\n"),
-    (b"<p:a/>", "fault Unbound book.xml p\n"),
-    (b"<a p:n='1'/>", "fault Unbound book.xml p\n"),
-    (b"<p:a q:n='1'/>", "fault Unbound book.xml p\n"),
-    (b"<xmlns:a/>", "fault Unbound book.xml xmlns\n"),
-    (
-        b"<a><b xmlns:p='u:1'/><p:c/></a>",
-        "fault Unbound book.xml p\n",
-    ),
-    (b"<a xmlns:p=\"\"/>", "fault BadNamespace book.xml\n"),
-    (b"<q:a xmlns:p=\"\"/>", "fault BadNamespace book.xml\n"),
-    (b"<a xmlns:xml='u:1'/>", "fault BadNamespace book.xml\n"),
-    (
-        b"<a xmlns='http://www.w3.org/XML/1998/namespace'/>",
-        "fault BadNamespace book.xml\n",
-    ),
-    (
-        b"<a xmlns:p='http://www.w3.org/2000/xmlns/'/>",
-        "fault BadNamespace book.xml\n",
-    ),
-    (b"<a xmlns:xmlns='u:1'/>", "fault BadNamespace book.xml\n"),
-    (
-        b"<a xmlns:p=\"u:1\" xmlns:q=\"u:1\" p:n=\"\" q:n=\"\"/>",
-        "fault DuplicateAttribute book.xml\n",
-    ),
-    (
-        b"<a xml:base=\"http://[\"></a>",
-        "fault BadReference book.xml\n",
-    ),
-    (
-        b"<a><b xml:base='http://['/><p:c/></a>",
-        "fault BadReference book.xml\n",
-    ),
-    (
-        b"<a xmlns:xi='http://www.w3.org/2001/XInclude'><xi:include href='b.xml'/></a>",
-        "fault NotYet book.xml\n",
-    ),
-    (
-        b"<a xmlns:xi='http://www.w3.org/2001/XInclude'><xi:include href='b.xml'/><p:c/></a>",
-        "fault Unbound book.xml p\n",
-    ),
-];
-
 #[test]
 fn the_tree_is_told(rt: HostRuntime) -> Result<(), Fail> {
     for (document, tree) in DOCUMENTS {
@@ -160,25 +84,6 @@ fn the_tree_is_told(rt: HostRuntime) -> Result<(), Fail> {
             root: case.root,
         };
         check(&rt, rt.alloc(), &case, &want, document)?;
-    }
-    Ok(())
-}
-
-// The commands are not carried out then.
-#[test]
-fn a_file_that_does_not_open_is_told_with_its_first_fault(rt: HostRuntime) -> Result<(), Fail> {
-    for (document, line) in CLOSED {
-        let case = Case {
-            root: Some(*document),
-            ..over("", "burst")
-        };
-        let want = Want {
-            status: 3,
-            told: &[line],
-            calls: 4,
-            root: case.root,
-        };
-        check(&rt, rt.alloc(), &case, &want, line)?;
     }
     Ok(())
 }
