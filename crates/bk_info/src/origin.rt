@@ -54,7 +54,11 @@ impl Origin {
     }
 
     /// The nodes of an internal entity, and the file that holds the reference. The one error is want of memory.
-    pub fn within_entity(alloc: Global, file: Name, entity: SharedText) -> Result<Origin, AllocError>
+    pub fn within_entity(
+        alloc: Global,
+        file: Name,
+        entity: SharedText,
+    ) -> Result<Origin, AllocError>
         ensures value { IfOk result (λ origin. origin ≡ from_entity file entity) }
     {
         Ok(Origin {

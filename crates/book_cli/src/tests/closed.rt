@@ -204,14 +204,18 @@ const CLOSED: &[(&[u8], &str)] = &[
 ];
 
 /// A document with something of each kind; its element ends at byte 110.
-const WHOLE: &str = "\u{FEFF}<?xml version='1.0'?>\r\n<!--é--><p:a xmlns:p='u:1' p:n='&lt;&#x3e;'>x&amp;中<![CDATA[<]]><b/><?q r?></p:a>\n<?z?>";
+const WHOLE: &str =
+    "\u{FEFF}<?xml version='1.0'?>\r\n<!--é--><p:a xmlns:p='u:1' p:n='&lt;&#x3e;'>x&amp;中<![CDATA[<]]><b/><?q r?></p:a>\n<?z?>";
 
-/// What is told of its first bytes, where it is one line.
-const BROKEN: &str = "fault NotWellFormed book.xml\n";
-const HALVED: &str = "fault Encoding book.xml\n";
+/// What is told of a document that is no well-formed one.
+const NOT_WELL_FORMED: &str = "fault NotWellFormed book.xml\n";
+
+/// What is told of bytes that are no UTF-8, and of another encoding.
+const ENCODING: &str = "fault Encoding book.xml\n";
 
 /// What is told of it where it opens, but for its last line.
-const OPENED: &str = "comment \"é\" in book.xml\nelement {u:1}a in book.xml\n  base file:///book/book.xml\n  attribute {u:1}n=\"<>\"\n  text \"x&中<\" in book.xml\n  element b in book.xml\n  pi q \"r\" in book.xml\n";
+const OPENED: &str =
+    "comment \"é\" in book.xml\nelement {u:1}a in book.xml\n  base file:///book/book.xml\n  attribute {u:1}n=\"<>\"\n  text \"x&中<\" in book.xml\n  element b in book.xml\n  pi q \"r\" in book.xml\n";
 
 /// A run over a file that does not open: this line is told, and the commands are not carried out.
 fn check_closed(
@@ -237,7 +241,13 @@ fn check_closed(
 /// Each of these documents is no well-formed one.
 fn check_broken(rt: &impl Abort, alloc: Global, documents: &[&str]) -> Result<(), Fail> {
     for document in documents {
-        check_closed(rt, alloc, Some(document.as_bytes()), BROKEN, document)?;
+        check_closed(
+            rt,
+            alloc,
+            Some(document.as_bytes()),
+            NOT_WELL_FORMED,
+            document,
+        )?;
     }
     Ok(())
 }
@@ -256,7 +266,7 @@ fn a_file_that_is_not_well_formed_is_told_so(rt: HostRuntime) -> Result<(), Fail
 #[test]
 fn a_file_of_another_encoding_is_told_so(rt: HostRuntime) -> Result<(), Fail> {
     for document in ENCODINGS {
-        check_closed(&rt, rt.alloc(), Some(document), HALVED, "no UTF-8")?;
+        check_closed(&rt, rt.alloc(), Some(document), ENCODING, "no UTF-8")?;
     }
     Ok(())
 }
@@ -286,14 +296,14 @@ fn check_lengths(
 #[test]
 fn a_document_that_is_cut_is_told_with_its_first_fault(rt: HostRuntime) -> Result<(), Fail> {
     for (from, to, line) in [
-        (0, 1, BROKEN),
-        (1, 3, HALVED),
-        (3, 31, BROKEN),
-        (31, 32, HALVED),
-        (32, 78, BROKEN),
-        (78, 80, HALVED),
-        (80, 110, BROKEN),
-        (112, 116, BROKEN),
+        (0, 1, NOT_WELL_FORMED),
+        (1, 3, ENCODING),
+        (3, 31, NOT_WELL_FORMED),
+        (31, 32, ENCODING),
+        (32, 78, NOT_WELL_FORMED),
+        (78, 80, ENCODING),
+        (80, 110, NOT_WELL_FORMED),
+        (112, 116, NOT_WELL_FORMED),
     ] {
         check_lengths(&rt, rt.alloc(), from, to, line)?;
     }

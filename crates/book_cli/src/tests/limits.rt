@@ -145,7 +145,8 @@ fn an_edit_leaves_at_most_4194304_bytes(rt: HostRuntime) -> Result<(), Fail> {
     let edited = repeated(alloc, "<a>xyz<b c='", value.as_str(), 1, "'>z</b></a>")?;
     let script =
         "text /1/1 1 1 \"xyz\"\ntext /1/1 1 1 \"&\"\ntext /1/1 1 0 \"xyz\"\ntext /1/1 0 1 \"\\u{0}xyz\"\ntext /1/1 1 1 \"yz\"\nburst\n";
-    let replies = "refused TooLarge\nrefused TooLarge\nrefused BadRange\nrefused BadText\nok\nburst 1\n";
+    let replies =
+        "refused TooLarge\nrefused TooLarge\nrefused BadRange\nrefused BadText\nok\nburst 1\n";
     let told = [
         replies,
         HEAD,

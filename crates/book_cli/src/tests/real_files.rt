@@ -93,6 +93,6 @@ fn a_run_saves_a_real_file(rt: HostRuntime) -> Result<(), Fail> {
 fn a_script_that_cannot_be_read_is_told(rt: HostRuntime) -> Result<(), Fail> {
     let (status, told) = told_of(&rt, "book.xml", ".")?;
     assert_eq!(rt; status, 5);
-    assert!(rt; told.as_slice() == b"fault source\n");
+    assert!(rt; told.as_slice() == b"fault source\n".as_slice());
     Ok(())
 }
