@@ -22,7 +22,7 @@ use Rattle.xt_lex.proofs.Theorems.{token_longest}
 use Rattle.xt_read.proofs.ItemLemmas as items
 
 -- the token stands in front of what follows it
-stands : (tok : Tok) (kind : TokenKind) (rest : List ℕ) → Spells kind (tok_text tok) → (kind ≡ char_data → Follows rest) → IsOfKind kind tok → IsToken tok (tok_text tok ++ rest)
+pub stands : (tok : Tok) (kind : TokenKind) (rest : List ℕ) → Spells kind (tok_text tok) → (kind ≡ char_data → Follows rest) → IsOfKind kind tok → IsToken tok (tok_text tok ++ rest)
 stands tok kind rest spelled follows of_kind = record {
   kind = kind;
   longest = token_longest kind (tok_text tok) rest spelled follows;
@@ -31,7 +31,7 @@ stands tok kind rest spelled follows of_kind = record {
 }
 
 -- a step with the token in front
-reads_step : (s t u : State) (tok : Tok) (kind : TokenKind) (rest : List ℕ) → Spells kind (tok_text tok) → (kind ≡ char_data → Follows rest) → IsOfKind kind tok → step s tok ≡ Some t → Reads t rest u → Reads s (tok_text tok ++ rest) u
+pub reads_step : (s t u : State) (tok : Tok) (kind : TokenKind) (rest : List ℕ) → Spells kind (tok_text tok) → (kind ≡ char_data → Follows rest) → IsOfKind kind tok → step s tok ≡ Some t → Reads t rest u → Reads s (tok_text tok ++ rest) u
 reads_step s t u tok kind rest spelled follows of_kind steps run =
     more s t u (tok_text tok ++ rest) tok (stands tok kind rest spelled follows of_kind) steps
     (subst (λ (r : List ℕ). Reads t r u) (sym (drop_at (tok_text tok) rest (length (tok_text tok)) refl)) run)
@@ -59,14 +59,14 @@ longer-longer : (text : Option (List ℕ)) (a b : List ℕ) → longer (Some (lo
 longer-longer None a b = refl
 longer-longer (Some t) a b = append_assoc t a b
 
-abbrev at : List OpenElement → Option Stage → List Item → Option (List ℕ) → State
+abbrev pub at : List OpenElement → Option Stage → List Item → Option (List ℕ) → State
 at opened stage items text = record { opened = opened; items = items; text = text; stage = stage }
 
 -- text may stand here
 abbrev IsIn : List OpenElement → Option Stage → Type 0
 IsIn opened stage = (not (is_top opened) || is_content stage) ≡ true
 
-when_true : {A : Type 0} (b : Bool) (x y : A) → b ≡ true → (if b then x else y) ≡ x
+pub when_true : {A : Type 0} (b : Bool) (x y : A) → b ≡ true → (if b then x else y) ≡ x
 when_true b x y is = rw is refl
 
 when_false : {A : Type 0} (b : Bool) (x y : A) → b ≡ false → (if b then x else y) ≡ y
@@ -263,11 +263,11 @@ fed_items s (leaf gap t rest) apart clear =
 nat_lt_true : (m n : ℕ) → m < n → nat_lt m n ≡ true
 nat_lt_true m n below = grind (arith, nat_tests)
 
-both_true : (a b : Bool) → a ≡ true → b ≡ true → a && b ≡ true
+pub both_true : (a b : Bool) → a ≡ true → b ≡ true → a && b ≡ true
 both_true a b x y = rw (x, y) refl
 
 -- an element may begin
-room : (opened : List OpenElement) (stage : Option Stage) (items : List Item) (text : Option (List ℕ)) → length opened < 128 → (is_top opened ≡ true → begins_root stage ≡ true) → has_room (at opened stage items text) ≡ true
+pub room : (opened : List OpenElement) (stage : Option Stage) (items : List Item) (text : Option (List ℕ)) → length opened < 128 → (is_top opened ≡ true → begins_root stage ≡ true) → has_room (at opened stage items text) ≡ true
 room opened stage items text below first =
     both_true (not (not (nat_lt (length opened) 128))) (not (is_top opened) || begins_root stage) (ap (λ b. not (not b)) (nat_lt_true (length opened) 128 below)) (root opened first)
   where
@@ -275,7 +275,7 @@ room opened stage items text below first =
     root [] first = first refl
     root (e ∷ es) first = refl
 
-same_bytes : (xs : List ℕ) → bytes_eq xs xs ≡ true
+pub same_bytes : (xs : List ℕ) → bytes_eq xs xs ≡ true
 same_bytes xs = (bytes_eq-Decides xs xs).1 refl
 
 -- what an end-tag leaves of a state
@@ -287,7 +287,7 @@ closes_to f e es stage k c name opened stays inner named =
     ∙ ap (λ k. Some (at es f.stage (e.before ++ element_item e.open_tag k (Some c) ∷ []) None)) inner
     ∙ ap (λ b. Some (at es b (e.before ++ element_item e.open_tag k (Some c) ∷ []) None)) stays
 
-follows_end_tag : (name c rest : List ℕ) → IsEndTag name c → Follows (c ++ rest)
+pub follows_end_tag : (name c rest : List ℕ) → IsEndTag name c → Follows (c ++ rest)
 follows_end_tag name c rest (blank, is_blank, e) = follows_markup c (0x2F ∷ (name ++ blank ++ codes ">")) rest (e ∙ simp append_assoc)
 
 element_text : (o k c after : List ℕ) → ((o ++ k) ++ c) ++ after ≡ o ++ (k ++ (c ++ after))

@@ -9,6 +9,9 @@ mod Fronts
 mod FrontPlaces
 mod PlainTexts
 mod NoFaults
+mod Continued
+mod Completed
+mod Refused
 mod Examples
 mod TagParts
 mod TokenSteps

@@ -12,6 +12,7 @@ use Rattle.std.proofs.lemmas.Slice.Eq.{bytes_eq-Decides}
 use Rattle.std.specs.List.{list_all, AllByRecursion}
 use Rattle.xt_spec.specs.Char.{is_space}
 use Rattle.xt_spec.specs.Reference.{IsEntityRef}
+use Rattle.xt_spec.specs.Name.{IsQName}
 use Rattle.xt_spec.specs.Tag.{Tag, IsTag, tag_text, IsEndTag, IsSpace}
 use Rattle.xt_spec.specs.Token.{TokenKind, char_data, Spells, IsFront, IsLongestFront, IsPlain, BeginsClose, HoldsNoClose, NoCloseBelow}
 use Rattle.xt_spec.specs.Tree.{Items, nil, text_item, reference_item, comment_item, pi_item, gap, is_kind, Item, element_item, leaf_item, items_of, source_text, begins_with}
@@ -20,6 +21,7 @@ use Rattle.xt_spec.specs.Doctype.{IsDoctype}
 use Rattle.xt_spec.specs.Text.{TextPart, data_part, reference_part, section_part, part_text, parts_text, begins_with_data, AreTextParts}
 use Rattle.xt_spec.specs.Reading.{are_distinct, attribute_names, IsElement, IsElementAt, IsContent, Stage, before_doctype, before_root, behind_root, is_before_root, begins_with_space, Leads}
 use Rattle.xt_read.specs.Run.{Body, document_body, content_body, first_stage, IsBody, Piece, data_piece, part_piece, reference_piece, comment_piece, pi_piece, declaration_piece, doctype_piece, Tok, start_tok, empty_tok, end_tok, piece_tok, tok_text, IsPiece, AreTagNames, IsToken, OpenElement, State, begin, with_text, longer, is_top, is_content, is_inside, begins_root, begins_document, behind_element, has_room, with_item, with_more, with_doctype, closed, step, Reads, done, more, has_ended, IsRead}
+use Rattle.xt_read.specs.Faults as faults
 use Rattle.xt_read.proofs.Tokens.{token_some}
 use Rattle.xt_read.proofs.Complete.{doctype_no_blank}
 use Rattle.xt_read.proofs.ItemLemmas as items
@@ -160,7 +162,7 @@ push_some [] x e = cc
 push_some (y ∷ ys) x e = cc
 
 -- no character data stands at the front
-abbrev NoData : List ℕ → Type 0
+abbrev pub NoData : List ℕ → Type 0
 NoData rest = (n : ℕ) → ¬ IsFront char_data n rest
 
 -- a text item that may go on: its parts so far; behind character data no more of it stands
@@ -200,7 +202,7 @@ holds_none text n within none k close =
     (cases_lt k n)
 
 -- character data behind which more of it stands is not the longest
-no_data_after : (text : List ℕ) (n : ℕ) → 0 < n → IsLongestFront text char_data n → NoData (drop n text)
+pub no_data_after : (text : List ℕ) (n : ℕ) → 0 < n → IsLongestFront text char_data n → NoData (drop n text)
 no_data_after text n some longest m front =
     let first = longest.front.spelled in
     let second = front.spelled in
@@ -300,10 +302,10 @@ top_with stage last xs text x here rest is inner apart = record {
   blank = λ b. absurd (let h : false ≡ true = sym apart ∙ sym (ends_by-push is_blank (with_text xs text) x) ∙ b in cc);
 }
 
-spelled_text : (tok : Tok) (text : List ℕ) → (is : IsToken tok text) → Spells is.kind (tok_text tok)
+pub spelled_text : (tok : Tok) (text : List ℕ) → (is : IsToken tok text) → Spells is.kind (tok_text tok)
 spelled_text tok text is = subst (λ t. Spells is.kind t) is.front is.longest.front.spelled
 
-guarded : {A : Type 0} (b : Bool) (x t : A) → (if b then Some x else None) ≡ Some t → (b ≡ true) × (x ≡ t)
+pub guarded : {A : Type 0} (b : Bool) (x t : A) → (if b then Some x else None) ≡ Some t → (b ≡ true) × (x ≡ t)
 guarded true x t e = (refl, cc)
 guarded false x t e = absurd (let h : ◌≡◌ {A = Option _} None (Some t) = e in cc)
 
@@ -483,7 +485,7 @@ pending_piece text t here rest pending kind (inr (kinds, c, stands)) spelled = p
 
 -- ---- one step
 
-longest_of : (kind other : TokenKind) (text : List ℕ) (n : ℕ) → kind ≡ other → IsLongestFront text kind n → IsLongestFront text other n
+pub longest_of : (kind other : TokenKind) (text : List ℕ) (n : ℕ) → kind ≡ other → IsLongestFront text kind n → IsLongestFront text other n
 longest_of kind other text n same is = subst (λ k. IsLongestFront text k n) same is
 
 abbrev state : List OpenElement → List Item → Option (List ℕ) → Option Stage → State
@@ -643,7 +645,7 @@ sound_at opened items text stage t (piece_tok piece tok) here is steps good = pi
 
 -- ---- the whole
 
-split_front : (tok : Tok) (text : List ℕ) → IsToken tok text → tok_text tok ++ drop (length (tok_text tok)) text ≡ text
+pub split_front : (tok : Tok) (text : List ℕ) → IsToken tok text → tok_text tok ++ drop (length (tok_text tok)) text ≡ text
 split_front tok text is = ap (λ t. t ++ drop (length (tok_text tok)) text) (sym is.front) ∙ take-append-drop (length (tok_text tok)) text
 
 sound : (s u : State) (text : List ℕ) → Reads s text u → Good s text → Good u [] × (state_text u ≡ state_text s ++ text)
@@ -728,3 +730,27 @@ read_is_body body bytes list is =
       whole_body body list is.last.opened is.last.items is.last.text is.last.stage of is.whole.closed is.whole.ended is.are s.0,
       whole_text bytes list is.last.opened is.last.items is.last.text is.whole.closed is.are s.1,
     )
+
+-- ---- a front
+
+-- each open element has a name
+abbrev pub AreNamed : List OpenElement → Type 0
+AreNamed [] = Unit {0}
+AreNamed (e ∷ es) = IsQName e.name × AreNamed es
+
+opened_named : (stage : Option Stage) (opened : List OpenElement) → AreOpened stage opened → AreNamed opened
+opened_named stage [] are = tt
+opened_named stage (e ∷ []) are = (subst IsQName (sym are.0.named) are.0.parts.name, tt)
+opened_named stage (e ∷ f ∷ es) are = (subst IsQName (sym are.0.named) are.0.parts.name, opened_named stage (f ∷ es) are.2)
+
+good_named : (opened : List OpenElement) (items : List Item) (text : Option (List ℕ)) (stage : Option Stage) (rest : List ℕ) → GoodAt opened items text stage rest → AreNamed opened
+good_named [] items text stage rest good = tt
+good_named (e ∷ es) items text stage rest good = opened_named stage (e ∷ es) good.0
+
+good_passes : (s u : State) (text rest : List ℕ) → faults.Passes s text u rest → Good s text → Good u rest
+good_passes s u text rest (faults.here s' text') good = good
+good_passes s u text rest (faults.past s' t u' text' rest' tok is steps others) good =
+    good_passes t u (drop (length (tok_text tok)) text) rest others (sound_at s.opened s.items s.text s.stage t tok text is steps good).0
+
+pub passes_named : (body : Body) (text rest : List ℕ) (u : State) → faults.Passes (begin body) text u rest → AreNamed u.opened
+passes_named body text rest u passes = good_named u.opened u.items u.text u.stage rest (good_passes (begin body) u text rest passes (good_first body text))

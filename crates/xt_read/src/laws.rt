@@ -1,14 +1,14 @@
 //! Laws of readings, each a clause of a function that does nothing.
 
-ghost use Rattle.std.specs.Prelude.{◌≡◌, ◌≢◌, ◌↔◌, List, ℕ};
+ghost use Rattle.std.specs.Prelude.{◌≡◌, ◌≢◌, ◌↔◌, ◌++◌, List, ℕ, None};
 ghost use Rattle.xt_spec.specs.Tree.{Items, source_text};
 ghost use Rattle.xt_spec.specs.Reading.{document, entity, plain_text, IsReading};
-ghost use Rattle.xt_read.specs.Run.{Body, IsBody, IsRead};
+ghost use Rattle.xt_read.specs.Run.{Body, IsBody, IsRead, State, Tok, tok_text, IsToken, begin, step};
 ghost use Rattle.xt_read.specs.declared.front.FileRole.{FileRole};
 ghost use Rattle.xt_read.specs.declared.unread.Unread.{Unread};
 ghost use Rattle.xt_read.specs.declared.unread.Unread.TheVariants as unread;
 ghost use Rattle.xt_read.specs.Front.{role_of};
-ghost use Rattle.xt_read.specs.Faults.{IsFaultOf};
+ghost use Rattle.xt_read.specs.Faults.{Passes, IsFaultOf};
 
 /// A text has at most one reading as a document.
 pub fn one_reading()
@@ -38,4 +38,14 @@ pub fn no_fault()
 /// A file has at most one fault but want of memory.
 pub fn one_fault()
     ensures law { (role : FileRole) (bytes : List ℕ) (a b : Unread) → IsFaultOf role bytes a → IsFaultOf role bytes b → a ≢ unread.NoMemory → b ≢ unread.NoMemory → a ≡ b }
+{}
+
+/// What is read of a body, token by token, is the front of a whole one: no token before the place of a fault is misplaced.
+pub fn front_goes_on()
+    ensures law { (body : Body) (front rest : List ℕ) (s : State) → Passes (begin body) (front ++ rest) s rest → (more : List ℕ) × (items : Items) × IsBody body items × (source_text items ≡ front ++ more) }
+{}
+
+/// A token that may not stand behind what was read is in no body there, whatever follows it.
+pub fn misplaced_ends()
+    ensures law { (body : Body) (front rest more : List ℕ) (s : State) (tok : Tok) (items : Items) → Passes (begin body) (front ++ rest) s rest → IsToken tok rest → step s tok ≡ None → IsBody body items → source_text items ≢ front ++ tok_text tok ++ more }
 {}

@@ -25,5 +25,8 @@ mod unread;
 pub use content::has_content;
 pub use document::{read_document, read_entity, read_text};
 pub use front::FileRole;
-pub use laws::{longest_tokens, no_fault, one_entity, one_fault, one_reading, one_text};
+pub use laws::{
+    front_goes_on, longest_tokens, misplaced_ends, no_fault, one_entity, one_fault, one_reading,
+    one_text,
+};
 pub use unread::Unread;
