@@ -1,23 +1,26 @@
 -- The definitions, computed on right and on wrong cases.
 use Rattle.std.proofs.Common.{◌≡◌, ◌∙◌, refl, sym, ap, ap₂, subst, subst₂, ℕ, zero, suc, ◌≤◌, List, [], ◌∷◌, ◌++◌, codes, get_or, length, drop, drop_of_length-le, Bool, true, false, bytes_eq, Option, Some, None, inl, inr, encode_utf8_all, append_assoc, eqb, eq-eqb, arith}
 use Rattle.std.proofs.lemmas.Bool.{and_parts}
+use Rattle.std.proofs.lemmas.List.{append_cancel_right}
 use Rattle.std.proofs.lemmas.Str.{encodes_same, encode_same, encodes-append}
 use Rattle.std.proofs.Math.Utf8.{encode}
-use Rattle.std.specs.List.{concat}
+use Rattle.std.specs.List.{concat, list_all}
 use Rattle.xt_spec.specs.Char.{is_char, is_name_start_char, is_name_char}
 use Rattle.xt_spec.specs.Name.{are_name_chars, are_ncname_chars, IsSpeltBy, IsName, IsNCName, IsQName}
 use Rattle.xt_spec.specs.Reference.{is_decimal_digit, number_behind, AreDigits, NamesChar, IsEntityRef, IsPredefined, StandsFor}
 use Rattle.xt_spec.specs.Tag.{is_value_char, IsValuePart, IsAttValue, Attribute, IsAttribute, IsTag, IsEndTag}
-use Rattle.xt_spec.specs.Token.{IsPlain, Spells, char_data, HoldsNoClose}
-use Rattle.xt_spec.specs.Tree.{Items, nil, element, leaf, text_item, reference_item, leaf_item}
-use Rattle.xt_spec.specs.Reading.{document, entity, IsElementAt, IsReading}
+use Rattle.xt_spec.specs.Doctype.{is_pubid_char, IsSystemLiteral, IsPubidLiteral, IsExternalId}
+use Rattle.xt_spec.specs.Markup.{lacks, IsCDataSection, IsComment, IsPiTarget}
+use Rattle.xt_spec.specs.Token.{Spells, char_data, HoldsNoClose, MayStand}
+use Rattle.xt_spec.specs.Tree.{Items, nil, element, leaf, text_item, reference_item, gap, leaf_item}
+use Rattle.xt_spec.specs.Reading.{are_distinct, document, entity, Closes, IsElementAt, IsReading}
 use Rattle.xt_spec.specs.Escape.{escape_text}
 use Rattle.xt_spec.specs.Paths.{item_at}
 use Rattle.xt_spec.specs.LineEnds.{lines_read}
-use Rattle.xt_spec.specs.Text.{TextPart, data_part, section_part, parts_value_in, is_void}
+use Rattle.xt_spec.specs.Text.{TextPart, data_part, reference_part, section_part, parts_text, parts_value_in, HasTextValue, is_void}
 use Rattle.xt_spec.specs.Value.{ValuePart, characters_part, character_part, value_parts_text, value_of_parts, AreValueParts, HasAttributeValue, tokenized}
 use Rattle.xt_spec.specs.Namespace.{NamedValue, Binding, xml_namespace, xmlns_namespace, prefix_of, local_of, declared_prefix, is_allowed, xml_scope, scope_of, Expanded, expanded_name}
-use Rattle.xt_spec.specs.Content.{Content, nothing_given, element_content, text_content, IsCommentOf, IsPiOf, HasContent}
+use Rattle.xt_spec.specs.Content.{Content, nothing_given, element_content, text_content, IsCommentOf, IsPiOf, typed, HasContent}
 
 -- a `]` is a reference at the end, and an LF in front
 ends_in_a_bracket : escape_text (codes "a]") ≡ codes "a&#93;"
@@ -328,23 +331,112 @@ spells_no_end_tag (blank, is, spelled) = unlike 0x62 0x61 _ _ refl (ap (drop 2) 
 
 -- ---- character data
 
-holds_no_close : HoldsNoClose (codes "]]")
-holds_no_close zero (rest, same) = cc
+holds_no_close : HoldsNoClose (codes " ]")
+holds_no_close zero (rest, same) = unlike 0x20 0x5D _ _ refl same
 holds_no_close (suc zero) (rest, same) = cc
 holds_no_close (suc (suc k)) (rest, same) =
-    let far : length (codes "]]") ≤ suc (suc k) = omega arith in
-    let none : [] ≡ codes "]]>" ++ rest = sym (drop_of_length-le (codes "]]") far) ∙ same in
+    let far : length (codes " ]") ≤ suc (suc k) = omega arith in
+    let none : [] ≡ codes "]]>" ++ rest = sym (drop_of_length-le (codes " ]") far) ∙ same in
     absurd (cc)
 
-stands_for_itself : IsPlain 0x5D
-stands_for_itself = (refl, λ e. omega (arith, e), λ e. omega (arith, e))
-
-spells_character_data : Spells char_data (codes "]]")
+spells_character_data : Spells char_data (codes " ]")
 unfolding encode
-spells_character_data = (codes "]]", λ none. cc, (stands_for_itself, (stands_for_itself, tt)), refl, holds_no_close)
+spells_character_data = (
+  codes " ]",
+  λ none. cc,
+  ((refl, λ e. omega (arith, e), λ e. omega (arith, e)), ((refl, λ e. omega (arith, e), λ e. omega (arith, e)), tt)),
+  refl,
+  holds_no_close,
+)
 
 spells_no_character_data : Spells char_data (codes "a]]>b") → ⊥
 spells_no_character_data (cs, some, plain, spelled, none) = none 1 (codes "b", refl)
+
+-- it ends where a `]]>` begins
+stands_before_a_close : MayStand char_data 1 (codes "a]]>")
+stands_before_a_close zero less (rest, same) = unlike 0x61 0x5D _ _ refl same
+stands_before_a_close (suc k) less begins = omega (arith, less)
+
+stands_in_no_close : MayStand char_data 2 (codes "a]]>") → ⊥
+stands_in_no_close stands = stands 1 (omega arith) ([], refl)
+
+-- all white space of content is kept
+keeps_white_space : HasTextValue (codes " ]") (codes " ]")
+keeps_white_space = (data_part (codes " ]") ∷ [], (spells_character_data, refl, tt), refl, refl)
+
+drops_no_white_space : HasTextValue (codes " ]") (codes "]") → ⊥
+unfolding encode
+drops_no_white_space ([], are, spelled, value) = absurd (cc)
+drops_no_white_space (data_part [] ∷ others, are, spelled, value) = absurd (are.0.1 (sym (encodes_same [] are.0.0 are.0.3)))
+drops_no_white_space (data_part (b ∷ text) ∷ others, are, spelled, value) =
+    let space : b ≡ 0x20 = ap (λ l. get_or l 0 0) spelled in
+    unlike 0x20 0x5D _ _ refl (subst (λ b. parts_value_in false (data_part (b ∷ text) ∷ others) ≡ codes "]") space value)
+drops_no_white_space (reference_part text c ∷ others, are, spelled, value) =
+    let begins = stands_begins text c are.0 in
+    unlike 0x26 0x20 _ _ refl (sym (ap (λ t. t ++ parts_text others) begins.1) ∙ spelled)
+drops_no_white_space (section_part text inner ∷ others, are, spelled, value) = unlike 0x3C 0x20 _ _ refl (sym (ap (λ t. t ++ parts_text others) are.0.2) ∙ spelled)
+
+includes_a_reference : HasTextValue (codes "&lt;") (codes "<")
+unfolding encode
+includes_a_reference = (reference_part (codes "&lt;") 0x3C ∷ [], (inr is_predefined, tt), refl, refl)
+
+-- ---- other markup
+
+holds_one_dash : IsComment (codes "<!--a-b-->")
+unfolding encode
+holds_one_dash = (codes "a-b", (codes "a-b", refl, refl), refl, refl)
+
+holds_no_two_dashes : IsComment (codes "<!--a--b-->") → ⊥
+holds_no_two_dashes (inner, are, lacking, spelled) =
+    let is : inner ≡ codes "a--b" = sym (append_cancel_right (codes "a--b") inner (codes "-->") (ap (drop 4) spelled)) in
+    let wrong : false ≡ true = subst (λ t. lacks (codes "--") (t ++ codes "-") ≡ true) is lacking in
+    absurd (cc)
+
+holds_a_bracket : IsCDataSection (codes "<![CDATA[a]]]>")
+unfolding encode
+holds_a_bracket = (codes "a]", (codes "a]", refl, refl), refl, refl)
+
+ends_at_the_first_close : IsCDataSection (codes "<![CDATA[]]>a]]>") → ⊥
+ends_at_the_first_close (inner, are, lacking, spelled) =
+    let is : inner ≡ codes "]]>a" = sym (append_cancel_right (codes "]]>a") inner (codes "]]>") (ap (drop 9) spelled)) in
+    let wrong : false ≡ true = subst (λ t. lacks (codes "]]>") t ≡ true) is lacking in
+    absurd (cc)
+
+spells_a_target : IsPiTarget (codes "a")
+unfolding encode
+spells_a_target = ((codes "a", refl, refl), refl)
+
+spells_no_target_with_a_colon : IsPiTarget (codes "a:b") → ⊥
+spells_no_target_with_a_colon is = spells_no_ncname is.0
+
+spells_no_reserved_target : IsPiTarget (codes "XML") → ⊥
+spells_no_reserved_target is = let wrong = is.1 in cc
+
+spells_a_system_literal : IsSystemLiteral (codes "'a\"'")
+unfolding encode
+spells_a_system_literal = (codes "a\"", (codes "a\"", refl, refl), (0x27, inr refl, refl, refl))
+
+spells_no_system_literal : IsSystemLiteral (codes "a") → ⊥
+spells_no_system_literal (inner, are, (q, inl quote, lacking, spelled)) = unlike 0x61 0x22 _ _ refl (spelled ∙ ap (λ q. (q ∷ inner) ++ q ∷ []) quote)
+spells_no_system_literal (inner, are, (q, inr quote, lacking, spelled)) = unlike 0x61 0x27 _ _ refl (spelled ∙ ap (λ q. (q ∷ inner) ++ q ∷ []) quote)
+
+spells_a_public_literal : IsPubidLiteral (codes "'-//a'")
+spells_a_public_literal = (codes "-//a", refl, (0x27, inr refl, refl, refl))
+
+spells_no_public_literal : IsPubidLiteral (codes "'<'") → ⊥
+spells_no_public_literal ([], are, (q, quote, lacking, spelled)) = cc
+spells_no_public_literal (b ∷ inner, are, (q, quote, lacking, spelled)) =
+    let first : b ≡ 0x3C = sym (ap (λ l. get_or l 1 0) spelled) in
+    let wrong : false ≡ true = subst (λ b. list_all is_pubid_char (b ∷ inner) ≡ true) first are in
+    absurd (cc)
+
+spells_an_external_id : IsExternalId (codes "SYSTEM 'a'")
+unfolding encode
+spells_an_external_id = inl (codes " ", codes "'a'", (refl, λ none. cc), (codes "a", (codes "a", refl, refl), (0x27, inr refl, refl, refl)), refl)
+
+spells_no_external_id : IsExternalId (codes "'a'") → ⊥
+spells_no_external_id (inl (space, system, is, literal, spelled)) = unlike 0x27 0x53 _ _ refl spelled
+spells_no_external_id (inr (space, public, between, system, is, literal, is_between, is_system, spelled)) = unlike 0x27 0x50 _ _ refl spelled
 
 -- ---- readings
 
@@ -365,6 +457,19 @@ is_the_element = record {
   };
 }
 
+stands_no_deeper : IsElementAt 128 (codes "<a/>") nil None → ⊥
+stands_no_deeper is = omega (arith, is.within)
+
+-- an end-tag of its name closes an element, and no other
+closes_its_element : Closes (codes "a") lone (Some (codes "</a >"))
+closes_its_element = spells_an_end_tag
+
+closes_no_other : Closes (codes "a") lone (Some (codes "</b>")) → ⊥
+closes_no_other = spells_no_end_tag
+
+keeps_names_apart : (are_distinct (codes "a" ∷ codes "b" ∷ []) ≡ true) × (are_distinct (codes "a" ∷ codes "b" ∷ codes "a" ∷ []) ≡ false)
+keeps_names_apart = (refl, refl)
+
 reads_an_element : IsReading document (codes "<a/>") lone
 unfolding lone encode
 reads_an_element = record { utf8 = (codes "<a/>", (refl, refl)); joined = refl; ordered = inr (refl, inr (refl, is_the_element, tt, refl)) }
@@ -379,18 +484,26 @@ reads_no_second is = elim is.ordered [
 ]
 
 -- an entity may be a text, and a document may not
-reads_a_text : IsReading entity (codes "]]") (leaf text_item (codes "]]") nil)
+reads_a_text : IsReading entity (codes " ]") (leaf text_item (codes " ]") nil)
 unfolding encode
 reads_a_text = record {
-  utf8 = (codes "]]", (refl, refl));
+  utf8 = (codes " ]", (refl, refl));
   joined = refl;
-  ordered = inr (refl, inr ((data_part (codes "]]") ∷ [], (spells_character_data, refl, tt), λ none. cc, refl), refl, tt));
+  ordered = inr (refl, inr ((data_part (codes " ]") ∷ [], (spells_character_data, refl, tt), λ none. cc, refl), refl, tt));
 }
 
-reads_no_text : IsReading document (codes "]]") (leaf text_item (codes "]]") nil) → ⊥
+reads_no_text : IsReading document (codes " ]") (leaf text_item (codes " ]") nil) → ⊥
 reads_no_text is = elim is.ordered [
   | inl marked ↦ let wrong = marked.1 in absurd (cc)
   | inr (plain, inl (text, rest, same, declares, main)) ↦ absurd (cc)
+  | inr (plain, inr none) ↦ none
+]
+
+-- white space is a gap at the top of a document alone
+reads_no_gap : IsReading entity (codes " ") (leaf gap (codes " ") nil) → ⊥
+reads_no_gap is = elim is.ordered [
+  | inl marked ↦ let wrong = marked.1 in absurd (cc)
+  | inr (plain, inl (text, rest, same, (d, declares, form, encoding), main)) ↦ let is : codes " " ≡ text = cc in unlike 0x20 0x3C _ _ refl (is ∙ declares.spelled)
   | inr (plain, inr none) ↦ none
 ]
 
@@ -424,6 +537,12 @@ keeps_no_tab (q, parts, quote, are, spelled, value) = no_tab q parts are (ap (dr
 
 -- ---- content
 
+types_an_id : typed (codes "xml:id") (codes " a ") ≡ codes "a"
+types_an_id = refl
+
+types_no_other : typed (codes "id") (codes " a ") ≡ codes " a "
+types_no_other = refl
+
 gives_a_comment : IsCommentOf (codes "<!--a-->") (codes "a")
 gives_a_comment = refl
 
@@ -442,21 +561,21 @@ spells_b : IsAttribute (attribute_of (codes " ") (codes "b"))
 unfolding encode
 spells_b = record { space = (refl, λ none. cc); name = inl (codes "b", refl, refl); equals = spells_an_attribute.equals; quoted = spells_an_attribute.quoted }
 
--- `<a b='v'>]]</a>`
+-- `<a b='v'> ]</a>`
 with_text : Items
-with_text = element (codes "<a b='v'>") (leaf text_item (codes "]]") nil) (Some (codes "</a>")) nil
+with_text = element (codes "<a b='v'>") (leaf text_item (codes " ]") nil) (Some (codes "</a>")) nil
 
-gives_content : HasContent with_text (element_content (codes "a") (attribute (codes "b") (codes "v") ∷ []) (text_content (codes "]]") nothing_given) nothing_given)
+gives_content : HasContent with_text (element_content (codes "a") (attribute (codes "b") (codes "v") ∷ []) (text_content (codes " ]") nothing_given) nothing_given)
 unfolding with_text attribute encode
 gives_content = (
   record { name = codes "a"; attributes = attribute_of (codes " ") (codes "b") ∷ []; blank = [] },
   attribute (codes "b") (codes "v") ∷ [],
-  text_content (codes "]]") nothing_given,
+  text_content (codes " ]") nothing_given,
   nothing_given,
   record { name = inl (codes "a", refl, refl); attributes = (spells_b, tt); blank = refl },
   refl,
   (codes "v", [], (0x27, characters_part (codes "v") ∷ [], inr refl, ((codes "v", refl, refl), λ none. cc, refl, tt), refl, refl), refl, refl),
-  (codes "]]", nothing_given, (data_part (codes "]]") ∷ [], (spells_character_data, refl, tt), refl, refl), refl, refl),
+  (codes " ]", nothing_given, keeps_white_space, refl, refl),
   refl,
   refl,
 )
