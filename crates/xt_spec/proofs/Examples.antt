@@ -5,15 +5,16 @@ use Rattle.std.proofs.lemmas.List.{append_cancel_right}
 use Rattle.std.proofs.lemmas.Str.{encodes_same, encode_same, encodes-append}
 use Rattle.std.proofs.Math.Utf8.{encode}
 use Rattle.std.specs.List.{concat, list_all}
-use Rattle.xt_spec.specs.Char.{is_char, is_name_start_char, is_name_char}
+use Rattle.xt_spec.specs.Char.{is_char, is_space, is_name_start_char, is_name_char}
 use Rattle.xt_spec.specs.Name.{are_name_chars, are_ncname_chars, IsSpeltBy, IsName, IsNCName, IsQName}
 use Rattle.xt_spec.specs.Reference.{is_decimal_digit, number_behind, AreDigits, NamesChar, IsEntityRef, IsPredefined, StandsFor}
-use Rattle.xt_spec.specs.Tag.{is_value_char, IsValuePart, IsAttValue, Attribute, IsAttribute, IsTag, IsEndTag}
-use Rattle.xt_spec.specs.Doctype.{is_pubid_char, IsSystemLiteral, IsPubidLiteral, IsExternalId}
+use Rattle.xt_spec.specs.Tag.{IsSpace, is_value_char, IsValuePart, IsAttValue, Attribute, IsAttribute, IsTag, IsEndTag}
+use Rattle.xt_spec.specs.Declaration.{Declaration, IsDeclarationOf}
+use Rattle.xt_spec.specs.Doctype.{is_pubid_char, IsSystemLiteral, IsPubidLiteral, IsExternalId, IsDoctype}
 use Rattle.xt_spec.specs.Markup.{lacks, IsCDataSection, IsComment, IsPiTarget}
 use Rattle.xt_spec.specs.Token.{Spells, char_data, HoldsNoClose, MayStand}
 use Rattle.xt_spec.specs.Tree.{Items, nil, element, leaf, text_item, reference_item, gap, leaf_item}
-use Rattle.xt_spec.specs.Reading.{are_distinct, document, entity, Closes, IsElementAt, IsReading}
+use Rattle.xt_spec.specs.Reading.{are_distinct, mark, document, entity, Closes, IsElementAt, IsOneText, IsReading}
 use Rattle.xt_spec.specs.Escape.{escape_text}
 use Rattle.xt_spec.specs.Paths.{item_at}
 use Rattle.xt_spec.specs.LineEnds.{lines_read}
@@ -154,6 +155,10 @@ refuses_a_declaration = refl
 
 chars_of_documents : (is_char 0x9 ≡ true) × (is_char 0x10FFFF ≡ true) × (is_char 0 ≡ false) × (is_char 0xD800 ≡ false) × (is_char 0xFFFE ≡ false)
 chars_of_documents = (refl, refl, refl, refl, refl)
+
+-- a no-break space is none
+spaces : (is_space 0x20 ≡ true) × (is_space 0xD ≡ true) × (is_space 0xA0 ≡ false)
+spaces = (refl, refl, refl)
 
 -- a `-` goes on in a name, and begins none
 name_characters : (is_name_char 0x2D ≡ true) × (is_name_start_char 0x2D ≡ false) × (is_name_char 0x20 ≡ false)
@@ -438,6 +443,61 @@ spells_no_external_id : IsExternalId (codes "'a'") → ⊥
 spells_no_external_id (inl (space, system, is, literal, spelled)) = unlike 0x27 0x53 _ _ refl spelled
 spells_no_external_id (inr (space, public, between, system, is, literal, is_between, is_system, spelled)) = unlike 0x27 0x50 _ _ refl spelled
 
+-- white space begins with a space
+begins_with_space : (space : List ℕ) → IsSpace space → (b : ℕ) × (rest : List ℕ) × (space ≡ b ∷ rest) × (is_space b ≡ true)
+begins_with_space [] is = absurd (is.1 refl)
+begins_with_space (b ∷ space) is = (b, space, refl, (and_parts (is_space b) (list_all is_space space) is.0).0)
+
+spells_a_doctype : IsDoctype (codes "<!DOCTYPE a SYSTEM 'a'[]>")
+unfolding encode
+spells_a_doctype = record {
+  space = codes " ";
+  name = codes "a";
+  external = codes " SYSTEM 'a'";
+  blank = [];
+  brackets = codes "[]";
+  is_space = (refl, λ none. cc);
+  is_name = inl (codes "a", refl, refl);
+  is_external = inr (codes " ", codes "SYSTEM 'a'", (refl, λ none. cc), spells_an_external_id, refl);
+  is_blank = refl;
+  is_brackets = inr ([], [], ([], tt, ([], (refl, refl)), refl), refl, refl);
+  spelled = refl;
+}
+
+spells_no_doctype : IsDoctype (codes "<!DOCTYPE>") → ⊥
+spells_no_doctype is =
+    let begins = begins_with_space is.space is.is_space in
+    let first : 0x3E ≡ begins.0 = ap (λ l. get_or l 9 0) (is.spelled ∙ ap (λ space. codes "<!DOCTYPE" ++ space ++ is.name ++ is.external ++ is.blank ++ is.brackets ++ codes ">") begins.2) in
+    let wrong : false ≡ true = ap is_space first ∙ begins.3 in
+    cc
+
+abbrev one_zero : Declaration
+one_zero = record { version = Some (codes "1.0"); encoding = None; standalone = None }
+
+declares_a_version : IsDeclarationOf one_zero (codes "<?xml version='1.0'?>")
+declares_a_version = record {
+  version = codes " version='1.0'";
+  encoding = [];
+  standalone = [];
+  blank = [];
+  has_version = (refl, record { space = codes " "; equals = codes "="; quoted = codes "'1.0'"; is_space = (refl, λ none. cc); is_eq = ([], [], refl, refl, refl); is_quoted = (0x27, inr refl, refl, refl); spelled = refl });
+  has_encoding = refl;
+  has_standalone = refl;
+  is_blank = refl;
+  form = refl;
+  spelled = refl;
+}
+
+declares_no_version : IsDeclarationOf one_zero (codes "<?xml?>") → ⊥
+declares_no_version is =
+    let word = is.has_version.1 in
+    let begins = begins_with_space word.space word.is_space in
+    let version : is.version ≡ (begins.0 ∷ begins.1) ++ codes "version" ++ word.equals ++ word.quoted =
+    word.spelled ∙ ap (λ space. space ++ codes "version" ++ word.equals ++ word.quoted) begins.2 in
+    let first : 0x3F ≡ begins.0 = ap (λ l. get_or l 5 0) (is.spelled ∙ ap (λ version. codes "<?xml" ++ version ++ is.encoding ++ is.standalone ++ is.blank ++ codes "?>") version) in
+    let wrong : false ≡ true = ap is_space first ∙ begins.3 in
+    cc
+
 -- ---- readings
 
 -- `<a/>`
@@ -492,6 +552,14 @@ reads_a_text = record {
   ordered = inr (refl, inr ((data_part (codes " ]") ∷ [], (spells_character_data, refl, tt), λ none. cc, refl), refl, tt));
 }
 
+reads_behind_a_mark : IsReading entity (mark ++ codes " ]") (leaf gap mark (leaf text_item (codes " ]") nil))
+unfolding encode
+reads_behind_a_mark = record {
+  utf8 = (0xFEFF ∷ codes " ]", (refl, refl));
+  joined = refl;
+  ordered = inl (leaf text_item (codes " ]") nil, refl, inr ((data_part (codes " ]") ∷ [], (spells_character_data, refl, tt), λ none. cc, refl), refl, tt));
+}
+
 reads_no_text : IsReading document (codes " ]") (leaf text_item (codes " ]") nil) → ⊥
 reads_no_text is = elim is.ordered [
   | inl marked ↦ let wrong = marked.1 in absurd (cc)
@@ -506,6 +574,14 @@ reads_no_gap is = elim is.ordered [
   | inr (plain, inl (text, rest, same, (d, declares, form, encoding), main)) ↦ let is : codes " " ≡ text = cc in unlike 0x20 0x3C _ _ refl (is ∙ declares.spelled)
   | inr (plain, inr none) ↦ none
 ]
+
+-- what is no XML is one text, which isn't empty
+is_one_text : IsOneText (leaf text_item (codes "<") nil)
+unfolding encode
+is_one_text = ((codes "<", refl, refl), λ none. cc)
+
+is_no_text : IsOneText (leaf text_item [] nil) → ⊥
+is_no_text is = is.1 refl
 
 -- ---- values of attributes
 
