@@ -9,8 +9,8 @@ use Rattle.bk_name.proofs.Examples.{no_port, joined_with_fragment, fragment_of_j
 use Rattle.bk_spec.specs.Node.{Origin, owned, from_entity, How, written, by_default, by_fixup, Attr, Head, Nodes, no_nodes, element_node, text_node, comment_node}
 use Rattle.bk_spec.specs.NodePaths.{node_paths}
 use Rattle.bk_spec.specs.IncludeKind.{two_fallbacks, encoding}
-use Rattle.bk_spec.specs.Fault.{too_large, undeclared, outside_book, unbound, duplicate_attribute, bad_reference, bad_include, fault_line}
-use Rattle.bk_spec.specs.DocumentNodes.{Context, attrs_of, distinct_attrs, base_at, nodes_of}
+use Rattle.bk_spec.specs.Fault.{too_large, bad_namespace, undeclared, outside_book, unbound, duplicate_attribute, bad_reference, bad_include, fault_line}
+use Rattle.bk_spec.specs.DocumentNodes.{Context, attrs_of, distinct_attrs, base_at, element_of, nodes_of}
 use Rattle.bk_spec.specs.Print.{print_tree, quoted_text}
 use Rattle.bk_spec.specs.Infoset.{nothing_plain, element_plain, text_plain, comment_plain, infoset_of}
 
@@ -179,6 +179,16 @@ two_prefixes = record { prefix = codes "p"; namespace = codes "u:1" } ∷ record
 
 gives_no_attribute_twice : distinct_attrs file two_prefixes (value_of (codes "p:n") (codes "1") ∷ value_of (codes "q:n") (codes "2") ∷ []) ≡ Err (duplicate_attribute file)
 gives_no_attribute_twice = refl
+
+-- an element's own, and what it hands on
+gives_an_element : element_of file top (codes "a") (value_of (codes "xmlns") (codes "u:1") ∷ []) ≡ Ok (record {
+  head = record { space = codes "u:1"; local = codes "a"; attributes = []; base = codes "file:///d/e"; lang = []; origin = owned file document };
+  context = record { scope = record { prefix = []; namespace = codes "u:1" } ∷ xml_scope; base = codes "file:///d/e"; lang = [] };
+})
+gives_an_element = refl
+
+gives_no_element : element_of file top (codes "a") (value_of (codes "xmlns:p") [] ∷ []) ≡ Err (bad_namespace file)
+gives_no_element = refl
 
 -- a text with an empty value gives no node
 gives_no_empty_text : nodes_of file top 0 (text_content [] (text_content (codes "x") nothing_given)) ≡ Ok (text_node (codes "x") (owned file document) no_nodes)
