@@ -58,7 +58,7 @@ no_folder : is_base (codes "file:///book") ≡ false
 unfolding is_base url_on_literals percent_encoding_on_literals
 no_folder = refl
 
-escapes : uri_text (codes "file:///book/") (codes "a b") ≡ codes "file:///book/a%20b"
+pub escapes : uri_text (codes "file:///book/") (codes "a b") ≡ codes "file:///book/a%20b"
 unfolding escaped_name percent_encoding_on_literals
 escapes = refl
 

@@ -5,12 +5,13 @@ use Rattle.xt_spec.specs.Content.{nothing_given, element_content, text_content, 
 use Rattle.xt_spec.specs.Namespace.{NamedValue, Binding, xml_namespace, xml_scope}
 use Rattle.xt_spec.specs.Reading.{document, entity}
 use Rattle.xt_spec.specs.Tree.{Items, nil, element, leaf, text_item, comment_item, gap}
-use Rattle.bk_name.proofs.Examples.{no_port, joined_with_fragment, fragment_of_joined}
+use Rattle.bk_name.proofs.Examples.{escapes, no_port, joined_with_fragment, fragment_of_joined}
 use Rattle.bk_spec.specs.Node.{Origin, owned, from_entity, How, written, by_default, by_fixup, Attr, Head, Nodes, no_nodes, element_node, text_node, comment_node}
 use Rattle.bk_spec.specs.NodePaths.{node_paths}
 use Rattle.bk_spec.specs.IncludeKind.{two_fallbacks, encoding}
 use Rattle.bk_spec.specs.Fault.{too_large, bad_namespace, undeclared, outside_book, unbound, duplicate_attribute, bad_reference, bad_include, fault_line}
 use Rattle.bk_spec.specs.DocumentNodes.{Context, attrs_of, distinct_attrs, base_at, element_of, nodes_of}
+use Rattle.bk_spec.specs.Opening.{top_context}
 use Rattle.bk_spec.specs.Print.{print_tree, quoted_text}
 use Rattle.bk_spec.specs.Infoset.{nothing_plain, element_plain, text_plain, comment_plain, infoset_of}
 
@@ -134,6 +135,10 @@ keeps_the_base = refl
 joins_no_base : base_at file (codes "file:///d/e") (Some (codes "http://h:99999/")) ≡ Err (bad_reference file)
 joins_no_base = rw no_port refl
 
+-- the document element has that of the file
+begins_at_the_file : (top_context (codes "a b")).base ≡ codes "file:///book/a%20b"
+begins_at_the_file = escapes
+
 -- an element of a document, with what it holds
 abbrev element_of_file : List ℕ → List Attr → List ℕ → List ℕ → Nodes → Nodes → Nodes
 element_of_file local attributes base lang kids rest =
@@ -176,6 +181,13 @@ gives_no_unbound_attribute = refl
 -- two prefixes of one namespace
 abbrev two_prefixes : List Binding
 two_prefixes = record { prefix = codes "p"; namespace = codes "u:1" } ∷ record { prefix = codes "q"; namespace = codes "u:1" } ∷ []
+
+abbrev in_namespace : List ℕ → List ℕ → List ℕ → Attr
+in_namespace qname local value = record { qname = qname; space = codes "u:1"; local = local; value = value; is_id = false; how = written }
+
+gives_two_attributes : distinct_attrs file two_prefixes (value_of (codes "p:n") (codes "1") ∷ value_of (codes "q:m") (codes "2") ∷ [])
+    ≡ Ok (in_namespace (codes "p:n") (codes "n") (codes "1") ∷ in_namespace (codes "q:m") (codes "m") (codes "2") ∷ [])
+gives_two_attributes = refl
 
 gives_no_attribute_twice : distinct_attrs file two_prefixes (value_of (codes "p:n") (codes "1") ∷ value_of (codes "q:n") (codes "2") ∷ []) ≡ Err (duplicate_attribute file)
 gives_no_attribute_twice = refl
