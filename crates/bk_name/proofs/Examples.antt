@@ -58,7 +58,7 @@ no_folder : is_base (codes "file:///book") ≡ false
 unfolding is_base url_on_literals percent_encoding_on_literals
 no_folder = refl
 
-escapes : uri_text (codes "file:///book/") (codes "a b") ≡ codes "file:///book/a%20b"
+pub escapes : uri_text (codes "file:///book/") (codes "a b") ≡ codes "file:///book/a%20b"
 unfolding escaped_name percent_encoding_on_literals
 escapes = refl
 
@@ -88,7 +88,7 @@ up : joined (codes "file:///d/e") (codes "../a") ≡ Some (codes "file:///a")
 unfolding joined url_on_literals percent_encoding_on_literals
 up = refl
 
-no_port : joined (codes "file:///d/e") (codes "http://h:99999/") ≡ None
+pub no_port : joined (codes "file:///d/e") (codes "http://h:99999/") ≡ None
 unfolding joined url_on_literals percent_encoding_on_literals
 no_port = refl
 
@@ -109,3 +109,12 @@ no_fragment = refl
 no_fragment_to_drop : without_fragment (codes "file:///a?q") ≡ codes "file:///a?q"
 unfolding without_fragment url_on_literals percent_encoding_on_literals
 no_fragment_to_drop = refl
+
+-- what is joined has the fragment of the reference
+pub joined_with_fragment : joined (codes "file:///d/e") (codes "f#g") ≡ Some (codes "file:///d/f#g")
+unfolding joined url_on_literals percent_encoding_on_literals
+joined_with_fragment = refl
+
+pub fragment_of_joined : without_fragment (codes "file:///d/f#g") ≡ codes "file:///d/f"
+unfolding without_fragment url_on_literals percent_encoding_on_literals
+fragment_of_joined = refl

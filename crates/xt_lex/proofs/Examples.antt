@@ -1,17 +1,19 @@
 -- The definitions computed on right and on wrong cases.
-use Rattle.std.proofs.Common.{◌≡◌, true, false, refl, ◌∷◌, ◌++◌, inl, inr, [], Some, None, codes, arith}
+use Rattle.std.proofs.Common.{◌≡◌, ℕ, true, false, refl, ◌∷◌, ◌++◌, inl, inr, [], Some, None, codes, arith}
 use Rattle.xt_spec.specs.Declaration.{is_version_num, is_enc_name, is_yes_or_no, is_utf8_or_absent, Declaration, IsDeclarationOf, is_xml_declaration, is_text_declaration}
 use Rattle.xt_spec.specs.Doctype.{is_pubid_char, literal_part, comment_part, pi_part, other_part, AreSubsetParts, IsSubset, IsDoctype}
 use Rattle.xt_spec.specs.Markup.{lacks, IsCDataSection, IsComment, is_reserved, IsPi}
 use Rattle.xt_spec.specs.Char.{is_char}
 use Rattle.xt_spec.specs.Tag.{Attribute}
+use Rattle.xt_spec.specs.Token.{char_data, end_tag, IsFront, IsLongestFront}
 use Rattle.xt_lex.specs.Fast.{is_plain_name}
 use Rattle.xt_lex.specs.NameTest.{is_name_byte}
 use Rattle.xt_lex.specs.Place.{Follows, EndsName, EndsTag, AreSpansOf}
 use Rattle.xt_lex.specs.Scan.{run, behind}
 use Rattle.xt_lex.proofs.Utf8.{ascii}
 use Rattle.xt_lex.proofs.Spelling.{spelt_ascii}
-use Rattle.xt_lex.proofs.Spelled.{plain_is_ncname}
+use Rattle.xt_lex.proofs.Spelled.{plain_is_ncname, space_spells}
+use Rattle.xt_lex.proofs.Longest.{token_longest}
 
 -- behind a name may stand `=`, and no letter
 equals_ends_a_name : EndsName (codes "='v'")
@@ -27,6 +29,17 @@ reference_follows = inr refl
 no_character_follows : Follows (codes "a") → ⊥
 no_character_follows (inl e) = absurd (omega arith)
 no_character_follows (inr e) = absurd (omega arith)
+
+-- character data goes on to the next markup, and no shorter front of it is the token
+blank_before_a_tag : IsLongestFront (codes "  <") char_data 2
+blank_before_a_tag = token_longest char_data (codes "  ") (codes "<") (space_spells (codes "  ") (refl, λ e. cc)) (λ _. inl refl)
+
+no_shorter_blank : IsLongestFront (codes "  <") char_data 1 → ⊥
+no_shorter_blank is = let more = (is.longest char_data 2 blank_before_a_tag.front).1 in omega (arith, more)
+
+-- no other kind of token stands there
+no_tag_at_a_blank : (n : ℕ) → IsFront end_tag n (codes "  <") → ⊥
+no_tag_at_a_blank n front = let same = (blank_before_a_tag.longest end_tag n front).0 in cc
 
 -- a tag ends so, and no attribute does
 empty_tag_ends : EndsTag (codes "/>")

@@ -1,14 +1,22 @@
--- Where a body begins, and the fault of a text: right and wrong cases.
-use Rattle.std.proofs.Common.{◌∙◌, ℕ, Bool, [], ◌∷◌, ◌++◌, codes, refl, ap, inr, arith}
+-- Where a body begins, and the faults of a document and of a text: right and wrong cases.
+use Rattle.std.proofs.Common.{◌≡◌, ◌∙◌, ℕ, Bool, List, [], ◌∷◌, ◌++◌, get_or, codes, None, Some, refl, ap, inl, inr, arith}
 use Rattle.std.proofs.lemmas.Str.{chars-encodes}
 use Rattle.std.proofs.Math.Utf8.{encode}
 use Rattle.xt_spec.specs.Declaration.{Declaration}
-use Rattle.xt_spec.specs.Reading.{mark, plain_text, IsOrdered}
-use Rattle.xt_spec.specs.Tree.{nil, leaf, text_item}
-use Rattle.xt_read.specs.Faults.{IsFirstNoChar}
-use Rattle.xt_read.specs.Front.{NoDeclared, BeginsBody}
+use Rattle.xt_spec.specs.Reading.{mark, document, plain_text, behind_root, IsOrdered, IsReading}
+use Rattle.xt_spec.specs.Token.{start_tag, end_tag, Spells}
+use Rattle.xt_spec.specs.Tree.{Items, nil, leaf, text_item}
+use Rattle.xt_lex.proofs.Longest.{token_longest}
+use Rattle.xt_lex.proofs.Spelled.{plain_is_ncname}
+use Rattle.xt_lex.proofs.Utf8.{ascii}
+use Rattle.xt_read.specs.Faults.{here, past, IsFirstNoChar, IsFaultOf}
+use Rattle.xt_read.specs.Front.{NoDeclared, BeginsBody, IsFront}
+use Rattle.xt_read.specs.Run.{Tok, start_tok, end_tok, IsToken, State, document_body, begin}
+use Rattle.xt_read.specs.declared.front.FileRole.TheVariants as file
 use Rattle.xt_read.specs.declared.front.MarkupRole.TheVariants as role
-use Rattle.xt_read.proofs.Fronts.{one_begin}
+use Rattle.xt_read.specs.declared.unread.Unread.TheVariants as unread
+use Rattle.xt_read.proofs.Fronts.{after_none, unmarked, is_front, one_begin}
+use Rattle.xt_read.proofs.NoFaults.{no_fault, one_fault}
 use Rattle.xt_read.proofs.PlainTexts.{no_first_no_char, one_first_no_char}
 
 no_declaration : (form : Declaration → Bool) → NoDeclared form (codes "<")
@@ -51,3 +59,84 @@ one_text_of_markup = inr (refl, ((codes "<&]]>", refl, refl), λ none. cc))
 -- .. and has no fault as one
 no_char_in_markup : (at : ℕ) → IsFirstNoChar (codes "<&]]>") at → ⊥
 no_char_in_markup at = no_first_no_char (codes "<&]]>") (leaf text_item (codes "<&]]>") nil) at one_text_of_markup refl
+
+-- ---- the fault of a document
+
+-- `</b>` closes no `<a>`
+abbrev crossed : List ℕ
+crossed = codes "<a></b>"
+
+abbrev first_tok : Tok
+first_tok = start_tok (codes "<a>") (codes "a") []
+
+abbrev second_tok : Tok
+second_tok = end_tok (codes "</b>") (codes "b")
+
+starts : Spells start_tag (codes "<a>")
+starts = (record { name = codes "a"; attributes = []; blank = [] }, record { name = inl (plain_is_ncname (codes "a") refl); attributes = tt; blank = refl }, refl)
+
+ends : Spells end_tag (codes "</b>")
+ends = (codes "b", inl (plain_is_ncname (codes "b") refl), ([], refl, refl))
+
+first_is : IsToken first_tok crossed
+unfolding starts
+first_is = record {
+  kind = start_tag;
+  longest = token_longest start_tag (codes "<a>") (codes "</b>") starts (λ e. absurd (cc));
+  front = refl;
+  of_kind = (refl, record { tag = starts.0; parts = starts.1; spelled = refl; is_name = refl; are_names = refl });
+}
+
+second_is : IsToken second_tok (codes "</b>")
+unfolding ends
+second_is = record {
+  kind = end_tag;
+  longest = token_longest end_tag (codes "</b>") [] ends (λ e. absurd (cc));
+  front = refl;
+  of_kind = (refl, ends.1, ends.2);
+}
+
+-- `<a>` is open
+abbrev within_a : State
+within_a = record { opened = record { open_tag = codes "<a>"; name = codes "a"; before = [] } ∷ []; items = []; text = None; stage = Some behind_root }
+
+none_in_crossed : (form : Declaration → Bool) → NoDeclared form crossed
+none_in_crossed form d =
+    let wrong : ◌≡◌ {A = ℕ} 0x61 0x3F = ap (λ l. get_or l 1 0) (d.stands ∙ ap (λ t. t ++ d.rest) d.is.spelled) in
+    omega (arith, wrong)
+
+begins_crossed : BeginsBody role.Document crossed 0
+begins_crossed = record { len = 0; takes = inr (none_in_crossed _, refl); to_is = refl }
+
+nothing_in_front : IsFront role.Document crossed nil 0
+nothing_in_front = is_front role.Document crossed nil 0 (unmarked _ document_body crossed nil 0 refl (after_none _ document_body crossed (none_in_crossed _))) begins_crossed
+
+fault_at_the_end_tag : IsFaultOf file.Document crossed (unread.NotWellFormed 3)
+fault_at_the_end_tag = (
+  ascii crossed refl,
+  record {
+    front = nil;
+    to = 0;
+    is = nothing_in_front;
+    fault = record {
+      at = 3;
+      order = omega arith;
+      within = omega arith;
+      state = within_a;
+      passes = past (begin document_body) within_a within_a crossed (codes "</b>") first_tok first_is refl (here within_a (codes "</b>"));
+      halts = (refl, inr (inl (record { tok = second_tok; is = second_is; none = refl; level = refl })));
+    };
+  },
+)
+
+-- .. and nowhere else
+no_fault_at_the_start_tag : IsFaultOf file.Document crossed (unread.NotWellFormed 0) → ⊥
+no_fault_at_the_start_tag is =
+    let same : unread.NotWellFormed 0 ≡ unread.NotWellFormed 3 = one_fault file.Document crossed (unread.NotWellFormed 0) (unread.NotWellFormed 3) is fault_at_the_end_tag (λ e. cc) (λ e. cc) in
+    cc
+
+-- .. so it reads as nothing
+no_reading_of_crossed : (items : Items) → IsReading document crossed items → ⊥
+no_reading_of_crossed items is =
+    let none = no_fault file.Document crossed items (unread.NotWellFormed 3) is fault_at_the_end_tag in
+    cc
