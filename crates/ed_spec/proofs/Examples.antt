@@ -14,7 +14,7 @@ use Rattle.bk_spec.specs.Opening.{top_context}
 use Rattle.ed_spec.specs.TextEdit.{text_edited}
 use Rattle.ed_spec.specs.Place.{path_of, text_set}
 use Rattle.ed_spec.specs.Book.{Book, with_file, Opens}
-use Rattle.ed_spec.specs.Edit.{Edit, text_edit, no_such_place, wrong_kind, bad_range, bad_text, range_replaced, IsAt, IsInText, Refuses, no_node, no_text, no_range, no_char, Accepts, accepted, AcceptsIn}
+use Rattle.ed_spec.specs.Edit.{Edit, text_edit, Refusal, no_such_place, wrong_kind, bad_range, bad_text, range_replaced, IsAt, IsInText, Refuses, no_node, no_text, no_range, no_char, Accepts, accepted, RefusesIn, AcceptsIn}
 use Rattle.ed_spec.specs.Session.{Session, opened, edit, undo, redo, burst, Reply, done, refused, nothing_to_undo, nothing_to_redo, saved_files, AreDifferences, after_edit, after_undo, after_burst, Step, Does, accepts, refuses, undoes, undoes_nothing, redoes, redoes_nothing, saves, DoesAll, nothing, then}
 
 -- <a>x<b/>y</a>
@@ -28,6 +28,10 @@ edits_a_text = refl
 takes_a_text_away : source_text (text_edited false tree (0 ∷ 0 ∷ []) []) ≡ codes "<a><b/>y</a>"
 unfolding tree
 takes_a_text_away = refl
+
+edits_nothing_at_another_path : text_edited false tree (0 ∷ 3 ∷ []) (codes "z") ≡ tree
+unfolding tree
+edits_nothing_at_another_path = refl
 
 writes_it_as_it_is : source_text (text_edited true (leaf text_item (codes "a<b") nil) (0 ∷ []) (codes "a&b")) ≡ codes "a&b"
 unfolding encode
@@ -90,6 +94,7 @@ nodes_of_x = element_node (record { space = []; local = codes "a"; attributes = 
 abbrev book : List ℕ → Book
 book bytes = with_file root bytes (λ name. None)
 
+-- texts whose first bytes differ
 unlike : (a b : ℕ) (xs ys : List ℕ) → eqb a b ≡ false → a ∷ xs ≡ b ∷ ys → ⊥
 unlike a b xs ys apart same = let first : a ≡ b = cc in let wrong = eq-eqb a b first in cc
 
@@ -206,11 +211,20 @@ when_undone = after_undo when_edited (book (codes "<a>x</a>")) []
 accepts_in_the_book : AcceptsIn root (book (codes "<a>x</a>")) edit_of_x edited_book
 accepts_in_the_book = (codes "<a>x</a>", holds (codes "x"), holds (codes "y"), opens_a_root, accepts_an_edit, refl)
 
+accepts_none_of_another_root : (next : Book) → AcceptsIn (codes "s") (book (codes "<a>x</a>")) edit_of_x next → ⊥
+accepts_none_of_another_root next (bytes, items, others, opens, is, same) = opens_no_other bytes items opens
+
+refuses_in_the_book : RefusesIn root (book (codes "<a>x</a>")) (text_edit (1 ∷ 2 ∷ []) 0 0 []) no_such_place
+refuses_in_the_book = (codes "<a>x</a>", holds (codes "x"), opens_a_root, refuses_a_place)
+
+refuses_none_of_another_root : (refusal : Refusal) → RefusesIn (codes "s") (book (codes "<a>x</a>")) edit_of_x refusal → ⊥
+refuses_none_of_another_root refusal (bytes, items, opens, is) = opens_no_other bytes items opens
+
 does_an_edit : Does root at_first (edit edit_of_x) done when_edited
 does_an_edit = accepts edit_of_x edited_book accepts_in_the_book
 
 does_no_edit : Does root at_first (edit (text_edit (1 ∷ 2 ∷ []) 0 0 [])) (refused no_such_place) at_first
-does_no_edit = refuses (text_edit (1 ∷ 2 ∷ []) 0 0 []) no_such_place (codes "<a>x</a>", holds (codes "x"), opens_a_root, refuses_a_place)
+does_no_edit = refuses (text_edit (1 ∷ 2 ∷ []) 0 0 []) no_such_place refuses_in_the_book
 
 does_an_undo : Does root when_edited undo done when_undone
 does_an_undo = undoes (book (codes "<a>x</a>")) [] refl

@@ -188,7 +188,7 @@ spells_a_qname : IsQName (codes "a:b")
 unfolding encode
 spells_a_qname = inr (codes "a", codes "b", (codes "a", refl, refl), (codes "b", refl, refl), refl)
 
--- in front of a colon, and behind it, stands another
+-- cut at either colon, a part has the other
 three_parts : (ps ls : List ℕ) → ps ++ 0x3A ∷ ls ≡ codes "a:b:c" → are_ncname_chars ps ≡ true → are_ncname_chars ls ≡ true → ⊥
 three_parts [] ls same first second = absurd (cc)
 three_parts (p ∷ []) ls same first second =
@@ -260,6 +260,7 @@ stands_for_no_other is = grind arith
 
 -- ---- tags
 
+-- texts whose first bytes differ
 unlike : (a b : ℕ) (xs ys : List ℕ) → eqb a b ≡ false → a ∷ xs ≡ b ∷ ys → ⊥
 unlike a b xs ys apart same = let first : a ≡ b = cc in let wrong = eq-eqb a b first in cc
 
