@@ -1,9 +1,11 @@
--- Edits of a small tree and their outcomes.
-use Rattle.std.proofs.Common.{ℕ, List, [], ◌∷◌, refl, arith, inr, codes, Some, encode_utf8_all}
-use Rattle.xt_spec.specs.Tree.{Items, nil, element, leaf, text_item, comment_item, leaf_item, element_item}
+-- Edits of a small tree and their outcomes, and where its texts stand.
+use Rattle.std.proofs.Common.{◌≡◌, ◌∙◌, ℕ, List, [], ◌∷◌, ◌++◌, refl, ap, get_or, arith, inr, codes, Some, None, encode_utf8_all, append-nil}
+use Rattle.xt_spec.specs.Tree.{Items, nil, element, leaf, text_item, comment_item, leaf_item, element_item, append, source_text}
 use Rattle.xt_spec.specs.Text.{HasTextValue, section_part}
 use Rattle.ed_spec.specs.Edit.{text_edit, no_such_place, wrong_kind, bad_range, no_node, no_text, no_range, accepted}
+use Rattle.xt_spec.proofs.PathLemmas.{source_text-append}
 use Rattle.ed_laws.specs.Outcome.{refused, gives, HasOutcome}
+use Rattle.ed_laws.specs.Bytes.{StandsBetween}
 use Rattle.xt_escape.proofs.Theorems.{escape_has_value}
 use Rattle.ed_laws.proofs.Outcomes.{one_outcome}
 
@@ -50,3 +52,21 @@ finds_no_third_node = no_node (1 ∷ 3 ∷ []) 0 0 [] refl
 section_has_its_characters : HasTextValue (codes "<![CDATA[<]]>") (encode_utf8_all (codes "<"))
 unfolding lib.Utf8.encode
 section_has_its_characters = (section_part (codes "<![CDATA[<]]>") (codes "<") ∷ [], (((codes "<", refl, refl), refl, refl), tt), refl, refl)
+
+-- ---- bytes
+
+-- <a>x<b/>x</a>: the second text stands behind the first, which has the same bytes
+abbrev twice : Items
+twice = element (codes "<a>") (leaf text_item (codes "x") (element (codes "<b/>") nil None (leaf text_item (codes "x") nil))) (Some (codes "</a>")) nil
+
+stands_at_the_end : StandsBetween twice (0 ∷ 2 ∷ []) (codes "<a>x<b/>") (codes "x") (codes "</a>")
+stands_at_the_end = record {
+  there = refl;
+  whole = refl;
+  put = λ others. append-nil (codes "<a>x<b/>" ++ source_text (append others nil) ++ codes "</a>") ∙ ap (λ (l : List ℕ). codes "<a>x<b/>" ++ l ++ codes "</a>") (source_text-append others nil ∙ append-nil (source_text others));
+}
+
+stands_not_in_front : StandsBetween twice (0 ∷ 2 ∷ []) (codes "<a>") (codes "x") (codes "<b/>x</a>") → ⊥
+stands_not_in_front stands =
+    let fourth : 0x78 ≡ 0x3C = ap (λ (l : List ℕ). get_or l 3 0) (stands.put nil) in
+    omega (arith, fourth)

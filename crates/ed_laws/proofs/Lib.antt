@@ -5,6 +5,7 @@ pub mod NodeLemmas
 pub mod Nodes
 pub mod Outcomes
 pub mod Opened
+pub mod Bytes
 pub mod Theorems
 pub mod Replies
 mod Examples

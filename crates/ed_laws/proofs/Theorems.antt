@@ -6,6 +6,7 @@
 --   in_text_once            a place leads to one text, of the same characters
 --   has_an_outcome          over the items of a document that opens it has one; ordered_outcome: over those of any document
 --   other_files_stay        an accepted edit changes the root alone
+--   changes_one_text        .. and there the bytes of one text item; changes_one_text_in: of the root of a book
 --   one_reply               in a session a command has one reply, and leaves one session; one_run: commands in a row
 --   one_refusal_in, not_both_in, one_book   .. of an edit of a book; one_count: two books differ in so many files
 --   opens_once              a book opens with one list of items
@@ -14,6 +15,7 @@
 pub use Rattle.ed_laws.proofs.Nodes.{edit_changes_the_node}
 pub use Rattle.ed_laws.proofs.Opened.{accepted_changes_the_node, accepted_opens, an_edited_document_opens, has_an_outcome}
 pub use Rattle.ed_laws.proofs.Outcomes.{one_refusal, not_both, one_acceptance, one_outcome, in_text_once, ordered_outcome, other_files_stay}
+pub use Rattle.ed_laws.proofs.Bytes.{changes_one_text, changes_one_text_in}
 pub use Rattle.ed_laws.proofs.Replies.{opens_once, one_refusal_in, not_both_in, one_book, one_count, one_reply, one_run}
 pub use Rattle.ed_laws.proofs.Values.{one_value, same_chars, value_chars, has_chars}
 pub use Rattle.ed_laws.proofs.VoidTexts.{void_value, some_not_void}

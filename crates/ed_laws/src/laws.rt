@@ -1,6 +1,6 @@
 //! Laws of edits, each a clause of a function that does nothing.
 
-ghost use Rattle.std.specs.Prelude.{◌≡◌, ◌≢◌, List, ℕ, true, encode_utf8_all};
+ghost use Rattle.std.specs.Prelude.{◌≡◌, ◌≢◌, List, ℕ, true, Some, encode_utf8_all};
 ghost use Rattle.std.specs.List.{list_all};
 ghost use Rattle.xt_spec.specs.Char.{is_char};
 ghost use Rattle.xt_spec.specs.Tree.{Items, source_text};
@@ -8,9 +8,10 @@ ghost use Rattle.bk_spec.specs.Node.{Nodes};
 ghost use Rattle.bk_spec.specs.DocumentNodes.{Context};
 ghost use Rattle.bk_spec.specs.Opening.{GivesNodes, IsOpen};
 ghost use Rattle.ed_spec.specs.Place.{text_set};
-ghost use Rattle.ed_spec.specs.Book.{Book};
+ghost use Rattle.ed_spec.specs.Book.{Book, Opens};
 ghost use Rattle.ed_spec.specs.Edit.{Edit, text_edit, IsInText, range_replaced, edited, Accepts, AcceptsIn};
 ghost use Rattle.ed_spec.specs.Session.{Session, Command, Reply, Step, Does, DoesAll};
+ghost use Rattle.ed_laws.specs.Bytes.{ChangesOneText};
 ghost use Rattle.ed_laws.specs.Outcome.{Outcome, HasOutcome};
 
 /// An edit of a text gives the text at the place its new value, and the other nodes stay; a text whose new value is empty
@@ -49,6 +50,14 @@ pub fn an_edit_has_an_outcome()
 /// An accepted edit changes no file but the root.
 pub fn other_files_stay()
     ensures law { (root name : List ℕ) (book next : Book) (edit : Edit) → AcceptsIn root book edit next → name ≢ root → next name ≡ book name }
+{}
+
+/// An accepted edit of a text changes in its file the bytes of one text item, the one that the place names: those in front of
+/// it and those behind it stay. `value` says so of the root of a book.
+pub fn other_bytes_stay()
+    ensures law { (items others : Items) (place : List ℕ) (from to : ℕ) (new : List ℕ) → Accepts items (text_edit place from to new) others → ChangesOneText items others place from to new }
+    ensures value { (root : List ℕ) (book next : Book) (place : List ℕ) (from to : ℕ) (new : List ℕ) → AcceptsIn root book (text_edit place from to new) next
+        → (items others : Items) × Opens root book (source_text items) items × ChangesOneText items others place from to new × (next root ≡ Some (source_text others)) }
 {}
 
 /// In a session a command has one reply at most, and leaves one session; so do commands in a row.
