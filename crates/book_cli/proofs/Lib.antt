@@ -1,4 +1,5 @@
 pub mod OutputLemmas
+pub mod ExistLemmas
 pub mod ToldLemmas
 pub mod TreeLemmas
 pub mod SessionLemmas

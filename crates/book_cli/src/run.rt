@@ -1,5 +1,5 @@
 //! The run of the program, over any disk and any script.
-ghost use Rattle.std.specs.Prelude.{◌≡◌, ◌≢◌, ◌⊎◌, ◌≤◌, ◌+◌, ◌*◌, ℕ, List, [], length, map, Option, Some, None, IsTrue, string_bytes, encode_utf8_all};
+ghost use Rattle.std.specs.Prelude.{◌≡◌, ◌≢◌, ◌⊎◌, ◌≤◌, ◌+◌, ◌*◌, ◌++◌, ℕ, List, [], length, map, Option, Some, None, IsTrue, string_bytes, encode_utf8_all};
 ghost use Rattle.bk_desk.specs.Disk.{DiskState};
 ghost use Rattle.bk_desk.specs.CrashPoints.{AtEachCrash};
 ghost use Rattle.bk_desk.specs.Cause.{Rose, HasCause};
@@ -14,6 +14,7 @@ ghost use Rattle.bk_spec.specs.DocumentNodes.{Context};
 ghost use Rattle.bk_spec.specs.Opening.{GivesNodes};
 ghost use Rattle.ed_spec.specs.Place.{text_set};
 ghost use Rattle.ed_spec.specs.Edit.{text_edit, IsInText, range_replaced, Accepts};
+ghost use Rattle.ed_laws.specs.Bytes.{ChangesOneText};
 ghost use Rattle.book_cli.specs.Output.{is_book_status, is_script_status, is_exit_status, is_answer, IsOutput, WritesOutput};
 ghost use Rattle.bk_run.specs.Input.{IsInput};
 ghost use Rattle.book_cli.specs.Leaves.{RecoveredBook, recovers_book, MayCrashIn, KeepsFiles, IsBookSaved, TakesRunSteps};
@@ -185,6 +186,11 @@ pub fn run<D: Desk, S: Source, L: Ledger>(
     // With 6 or 7 a front of the output, or of the line of the source; what a crash leaves of either.
     ensures prefix { IsTrue D.tells → (left : List ℕ) → S.left script.old ≡ Some left → (result ≡ 6) ⊎ (result ≡ 7)
         → EndsEarly (root_of (map string_bytes words.now)) left (Rose (S.faults script.old) (S.faults script.new)) (D.standing desk.old) (D.standing desk.new) (AtEachCrash D.time D.was desk.old desk.new) result }
+    // Where no count of faults rose it is the status of the definition, with the whole output, or 7.
+    ensures only { IsTrue D.tells → (left : List ℕ) → S.left script.old ≡ Some left
+        → (Rose (D.faults desk.old) (D.faults desk.new) → ⊥) → (Rose (S.faults script.old) (S.faults script.new) → ⊥)
+        → (status : ℕ) (text : List ℕ) → IsOutput (map string_bytes words.now) left (D.standing desk.old).files status text
+        → ((result ≡ status) × ((D.standing desk.new).told ≡ (D.standing desk.old).told ++ text)) ⊎ (result ≡ 7) }
     ensures crash { IsTrue D.tells → (left : List ℕ) → S.left script.old ≡ Some left → IsTrue (is_exit_status result)
         → AtEachCrash D.time D.was desk.old desk.new (MayCrashIn (root_of (map string_bytes words.now)) left (D.standing desk.old)) }
     // After 0, 1 and 3.
@@ -204,6 +210,9 @@ pub fn run<D: Desk, S: Source, L: Ledger>(
         → GivesNodes file context count items nodes → Accepts items (text_edit place from to new) others
         → (path characters : List ℕ) × IsInText items place from to path characters
         × GivesNodes file context count others (text_set nodes place (encode_utf8_all (range_replaced characters from to new))) }
+    // .. and changes in the file the bytes of that text's item alone.
+    ensures law_bytes { (items others : Items) (place : List ℕ) (from to : ℕ) (new : List ℕ)
+        → Accepts items (text_edit place from to new) others → ChangesOneText items others place from to new }
     ensures count { steps.old ≤ steps.new }
     ensures exact { IsTrue D.tells → (left : List ℕ) → S.left script.old ≡ Some left
         → TakesRunSteps (root_of (map string_bytes words.now)) left (D.standing desk.old).files result steps.old steps.new }

@@ -2,13 +2,16 @@ use Rattle.std.proofs.Common.{map}
 use Rattle.std.specs.Prelude.{string_bytes}
 use Rattle.bk_desk.specs.Cause.{Rose}
 use Rattle.bk_desk.specs.CrashPoints.{AtEachCrash}
-use Rattle.ed_laws.proofs.Theorems.{accepted_changes_the_node}
+use Rattle.ed_laws.proofs.Theorems.{accepted_changes_the_node, changes_one_text}
 use Rattle.book_cli.specs.Words.{root_of}
-use Rattle.book_cli.proofs.EndLemmas.{ends_output, ends_crash, ends_durable, ends_others, ends_early}
+use Rattle.book_cli.proofs.EndLemmas.{ends_output, ends_crash, ends_durable, ends_others, ends_early, answers_only}
 use Rattle.book_cli.proofs.run.run.Goals as goal
 
 pub returns-clause-law : goal.returns-clause-law
 returns-clause-law g c = accepted_changes_the_node
+
+pub returns-clause-law_bytes : goal.returns-clause-law_bytes
+returns-clause-law_bytes g c = changes_one_text
 
 pub returns-clause-output : goal.returns-clause-output
 returns-clause-output g c = λ h left told.
@@ -34,3 +37,10 @@ pub returns-clause-prefix : goal.returns-clause-prefix
 returns-clause-prefix g c = λ h left told failed.
     ends_early (root_of (map string_bytes c.args.words.now)) left (Rose (g.S.Source.faults c.args.script.now) (g.S.Source.faults c.run_words.new.script)) (g.D.Desk.standing c.args.desk.now) (g.D.Desk.standing c.run_words.new.desk)
     (AtEachCrash g.D.Desk.time g.D.Desk.was c.args.desk.now c.run_words.new.desk) c.run_words.result (c.run_words.ensures.output h left told)
+
+pub returns-clause-only : goal.returns-clause-only
+returns-clause-only g c = λ h left told desk_never source_never.
+    answers_only (map string_bytes c.args.words.now) left (g.D.Desk.standing c.args.desk.now).files c.run_words.result (g.D.Desk.standing c.args.desk.now).told (g.D.Desk.standing c.run_words.new.desk).told
+    c.run_words.ensures.value (λ five. source_never (c.run_words.ensures.cause.rose five)) (λ six. desk_never (c.run_words.ensures.cause_desk.rose six))
+    (ends_output (root_of (map string_bytes c.args.words.now)) left (Rose (g.S.Source.faults c.args.script.now) (g.S.Source.faults c.run_words.new.script)) (g.D.Desk.standing c.args.desk.now) (g.D.Desk.standing c.run_words.new.desk)
+    (AtEachCrash g.D.Desk.time g.D.Desk.was c.args.desk.now c.run_words.new.desk) c.run_words.result (c.run_words.ensures.output h left told))

@@ -1,0 +1,177 @@
+-- Words, script and files give an output.
+use Rattle.std.proofs.Common.{◌≡◌, ◌≤◌, ◌+◌, ◌⊎◌, ℕ, List, [], ◌∷◌, ◌++◌, Bool, true, false, ltb, length, refl, sym, ◌∙◌, ap, subst, Option, Some, None, Ok, Err, inl, inr, codes}
+use Rattle.std.specs.Prelude.{if◌then◌else◌}
+use Rattle.std.specs.Str.{chars}
+use Rattle.std.specs.Fmt.{decimal}
+use Rattle.std.proofs.lemmas.Bool.{cases_Bool, ltb-true, ltb-false}
+use Rattle.xt_spec.specs.Tree.{Items}
+use Rattle.bk_spec.specs.Fault.{Fault, missing, too_large, fault_line}
+use Rattle.ed_session.specs.Start.{IsRootFault, absent, longer, faulty}
+use Rattle.ed_spec.specs.Book.{Book, Opens}
+use Rattle.ed_spec.specs.Edit.{text_edit}
+use Rattle.ed_spec.specs.Session.{Command, Step, edit, burst}
+use Rattle.bk_desk.specs.Disk.{DiskImage}
+use Rattle.bk_script.specs.Command as script
+use Rattle.bk_script.specs.Script.{AreRead, IsScript}
+use Rattle.bk_script.specs.Reading.{line_of, Outcome, added, and_then, lines_read, lines_of, script_read}
+use Rattle.bk_script.specs.declared.script.ScriptFault.{ScriptFault}
+use Rattle.bk_script.specs.declared.script.ScriptFault.TheVariants.{Long, BadLine, Many, NoMemory}
+use Rattle.bk_script.proofs.Scripts.{script_takes, fault_takes}
+use Rattle.jr_burst.specs.SavedFiles.{recovered_files}
+use Rattle.bk_run.specs.Replies.{IsCommandOf, AreCommandsOf, replies_text, any_refused}
+use Rattle.bk_run.proofs.RunLemmas.{opened_runs}
+use Rattle.book_cli.specs.Words.{root_of}
+use Rattle.book_cli.specs.Output.{usage_line, journal_line, IsScriptLine, status_after, IsRun, closed, ran, ScriptOutput, no_script, damaged, recovered, RootOutput, IsOutput, OpensOrFails}
+use Rattle.book_cli.specs.Leaves.{RecoveredBook}
+use Rattle.book_cli.proofs.OutputLemmas.{tree_exists}
+
+-- ---- the commands of a script
+
+-- a command that is built asks something of the session
+built_asks : (command : script.Command) → script.is_built command ≡ true → (asked : Command) × IsCommandOf command asked
+built_asks (script.edit_text place from to value) is = (edit (text_edit place.numbers from to (chars value)), refl)
+built_asks (script.put place side fragment) is = absurd (cc)
+built_asks (script.attr place name value) is = absurd (cc)
+built_asks (script.drop_attr place name) is = absurd (cc)
+built_asks (script.insert place side fragment) is = absurd (cc)
+built_asks (script.insert_at place index fragment) is = absurd (cc)
+built_asks (script.delete place) is = absurd (cc)
+built_asks (script.move place to side) is = absurd (cc)
+built_asks (script.extract place name) is = absurd (cc)
+built_asks (script.inline place) is = absurd (cc)
+built_asks script.undo is = absurd (cc)
+built_asks script.redo is = absurd (cc)
+built_asks script.burst is = (burst, refl)
+built_asks script.tree is = absurd (cc)
+built_asks (script.owner place) is = absurd (cc)
+
+-- .. and so do those of lines
+read_asks : (lines : List (List ℕ)) (commands : List script.Command) → AreRead lines commands → (asked : List Command) × AreCommandsOf commands asked
+read_asks [] commands is = ([], subst (λ (l : List script.Command). AreCommandsOf l []) (sym is) refl)
+read_asks (line ∷ lines) commands (None, others, is, read, joined) =
+    let (asked, asks) = read_asks lines others read in
+    (asked, subst (λ (l : List script.Command). AreCommandsOf l asked) (sym joined) asks)
+read_asks (line ∷ lines) commands (Some command, others, is, read, joined) =
+    let (one, asks_one) = built_asks command is.2 in
+    let (asked, asks) = read_asks lines others read in
+    (one ∷ asked, subst (λ (l : List script.Command). AreCommandsOf l (one ∷ asked)) (sym joined) (asks_one, asks))
+
+-- ---- the fault of a script
+
+-- reading lines is not a matter of memory
+added_never_out : (found : Option (Option script.Command)) (number : ℕ) (front : List script.Command) → added found number front ≡ Err NoMemory → ⊥
+added_never_out None number front is = absurd (cc)
+added_never_out (Some None) number front is = absurd (cc)
+added_never_out (Some (Some command)) number front is =
+    elim (cases_Bool (ltb (length front) 4096)) [
+      | inl lt ↦ let bad : ◌≡◌ {A = Outcome} (Ok (front ++ command ∷ [])) (Err NoMemory) = rw lt at is in absurd (cc)
+      | inr ge ↦ let bad : ◌≡◌ {A = Outcome} (Err Many) (Err NoMemory) = rw ge at is in absurd (cc)
+    ]
+
+out_here_or_later : (read : Outcome) (go : List script.Command → Outcome) → and_then read go ≡ Err NoMemory → (read ≡ Err NoMemory) ⊎ ((next : List script.Command) × (go next ≡ Err NoMemory))
+out_here_or_later (Ok next) go is = inr (next, is)
+out_here_or_later (Err fault) go is = inl is
+
+never_out : (number : ℕ) (front : List script.Command) (lines : List (List ℕ)) → lines_read number front lines ≡ Err NoMemory → ⊥
+unfolding lines_read
+never_out number front [] is = absurd (cc)
+never_out number front (line ∷ lines) is =
+    elim (out_here_or_later (added (line_of line) number front) (λ next. lines_read (number + 1) next lines) is) [
+      | inl here ↦ added_never_out (line_of line) number front here
+      | inr later ↦ never_out (number + 1) later.0 lines later.1
+    ]
+
+script_never_out : (bytes : List ℕ) → script_read bytes ≡ Err NoMemory → ⊥
+unfolding script_read
+script_never_out bytes is =
+    elim (cases_Bool (ltb 1048576 (length bytes))) [
+      | inl long ↦ let bad : ◌≡◌ {A = Outcome} (Err Long) (Err NoMemory) = rw long at is in absurd (cc)
+      | inr short ↦ never_out 1 [] (lines_of bytes) (rw short at is)
+    ]
+
+-- so it has a line
+line_exists : (fault : ScriptFault) → (fault ≡ NoMemory → ⊥) → (text : List ℕ) × IsScriptLine fault text
+line_exists Long never = (codes "fault script long\n", refl)
+line_exists (BadLine number) never = (codes "fault script line " ++ decimal number ++ codes "\n", refl)
+line_exists Many never = (codes "fault script commands\n", refl)
+line_exists NoMemory never = absurd (never refl)
+
+-- ---- over a book whose root opens
+
+zero_or_one : (steps : List Step) → (status_after steps ≡ 0) ⊎ (status_after steps ≡ 1)
+zero_or_one steps = by (any_refused steps)
+  where
+    by : (refused : Bool) → (◌≡◌ {A = ℕ} (if refused then 1 else 0) 0) ⊎ (◌≡◌ {A = ℕ} (if refused then 1 else 0) 1)
+    by true = inr refl
+    by false = inl refl
+
+run_exists : (root : List ℕ) (commands : List script.Command) (asked : List Command) (book : Book) (file : List ℕ) (items : Items) → AreCommandsOf commands asked → Opens root book file items
+    → (steps : List Step) × (tree : List ℕ) × IsRun root commands book steps tree
+run_exists root commands asked book file items asks opens =
+    let (steps, last, does, books) = opened_runs root file book items asked opens in
+    let (bytes, others, after) = books.book.opens in
+    let (tree, shows) = tree_exists root last.book bytes others after in
+    (steps, tree, record { asked = asked; asks = asks; last = last; does = does; shows = shows })
+
+open_output : (root bytes : List ℕ) (files : DiskImage) (commands : List script.Command) (book : Book) (file : List ℕ) (items : Items) → IsScript bytes commands → recovered_files files ≡ Some book → Opens root book file items
+    → (status : ℕ) × (text : List ℕ) × ((status ≡ 0) ⊎ (status ≡ 1)) × ScriptOutput root bytes files status text
+open_output root bytes files commands book file items reads found opens =
+    let (asked, asks) = read_asks reads.lines commands reads.read in
+    let (steps, tree, run) = run_exists root commands asked book file items asks opens in
+    (status_after steps, replies_text steps ++ tree, zero_or_one steps, recovered commands book reads found (steps, tree, ran run refl, refl))
+
+-- where a book is recovered and its root opens, the status is 0 or 1
+pub open_exists : (words : List (List ℕ)) (bytes : List ℕ) (files : DiskImage) (of : RecoveredBook (root_of words) bytes files) (file : List ℕ) (items : Items) → Opens of.name of.book file items
+    → (status : ℕ) × (text : List ℕ) × ((status ≡ 0) ⊎ (status ≡ 1)) × IsOutput words bytes files status text
+open_exists words bytes files of file items opens =
+    let (status, text, ends, gives) = open_output of.name bytes files of.commands of.book file items of.reads of.found opens in
+    (status, text, ends, subst (λ (r : Option (List ℕ)). RootOutput r bytes files status text) (sym of.named) gives)
+
+-- ---- the others
+
+closed_output : (root bytes : List ℕ) (files : DiskImage) (commands : List script.Command) (book : Book) (fault : Fault) → IsScript bytes commands → recovered_files files ≡ Some book → IsRootFault root (book root) fault
+    → (status : ℕ) × (text : List ℕ) × ScriptOutput root bytes files status text
+closed_output root bytes files commands book fault reads found cause = (3, fault_line fault, recovered commands book reads found ([], fault_line fault, closed fault cause refl refl refl, refl))
+
+book_output : (root bytes : List ℕ) (files : DiskImage) (commands : List script.Command) (book : Book) → IsScript bytes commands → recovered_files files ≡ Some book
+    → ((file : List ℕ) → book root ≡ Some file → length file ≤ 4194304 → OpensOrFails root file) → (status : ℕ) × (text : List ℕ) × ScriptOutput root bytes files status text
+book_output root bytes files commands book reads found told = by (book root) refl
+  where
+    judged : (file : List ℕ) → book root ≡ Some file → length file ≤ 4194304 → OpensOrFails root file → (status : ℕ) × (text : List ℕ) × ScriptOutput root bytes files status text
+    judged file there fits (inl (items, nodes, opens)) =
+        let (status, text, ends, gives) = open_output root bytes files commands book file items reads found record { found = there; nodes = nodes; opens = opens } in
+        (status, text, gives)
+    judged file there fits (inr (fault, cause)) = closed_output root bytes files commands book fault reads found (faulty file there fits cause)
+
+    by : (at : Option (List ℕ)) → book root ≡ at → (status : ℕ) × (text : List ℕ) × ScriptOutput root bytes files status text
+    by None there = closed_output root bytes files commands book (missing root) reads found (absent there refl)
+    by (Some file) there =
+        elim (cases_Bool (ltb 4194304 (length file))) [
+          | inl more ↦ closed_output root bytes files commands book (too_large root) reads found (longer file there (ltb-true _ _ more) refl)
+          | inr fits ↦ judged file there (ltb-false _ _ fits) (told file there (ltb-false _ _ fits))
+        ]
+
+script_output : (root bytes : List ℕ) (files : DiskImage) → ((of : RecoveredBook (Some root) bytes files) (file : List ℕ) → of.book of.name ≡ Some file → length file ≤ 4194304 → OpensOrFails of.name file)
+    → (status : ℕ) × (text : List ℕ) × ScriptOutput root bytes files status text
+script_output root bytes files told = by (script_read bytes) refl
+  where
+    over : (commands : List script.Command) → IsScript bytes commands → (at : Option Book) → recovered_files files ≡ at → (status : ℕ) × (text : List ℕ) × ScriptOutput root bytes files status text
+    over commands reads None none = (8, journal_line, damaged commands reads none refl refl)
+    over commands reads (Some book) found =
+        book_output root bytes files commands book reads found (told record { name = root; commands = commands; book = book; named = refl; reads = reads; found = found })
+
+    by : (read : Outcome) → script_read bytes ≡ read → (status : ℕ) × (text : List ℕ) × ScriptOutput root bytes files status text
+    by (Ok commands) is = over commands (script_takes bytes commands is) (recovered_files files) refl
+    by (Err fault) is =
+        let (text, line) = line_exists fault (λ out. script_never_out bytes (is ∙ ap (λ (f : ScriptFault). Err f) out)) in
+        (4, text, no_script fault (fault_takes bytes fault is) line refl)
+
+-- where the root of a book that is recovered opens or has a first fault, there is an output
+pub output_exists : (words : List (List ℕ)) (bytes : List ℕ) (files : DiskImage) → ((of : RecoveredBook (root_of words) bytes files) (file : List ℕ) → of.book of.name ≡ Some file → length file ≤ 4194304 → OpensOrFails of.name file)
+    → (status : ℕ) × (text : List ℕ) × IsOutput words bytes files status text
+output_exists words bytes files = by (root_of words)
+  where
+    by : (root : Option (List ℕ)) → ((of : RecoveredBook root bytes files) (file : List ℕ) → of.book of.name ≡ Some file → length file ≤ 4194304 → OpensOrFails of.name file)
+        → (status : ℕ) × (text : List ℕ) × RootOutput root bytes files status text
+    by None told = (2, usage_line, (refl, refl))
+    by (Some root) told = script_output root bytes files told
