@@ -8,10 +8,11 @@ use Rattle.xt_spec.specs.Declaration.{Declaration}
 use Rattle.xt_spec.specs.Markup.{begins, lacks, is_reserved}
 use Rattle.xt_spec.specs.Token.{TokenKind, start_tag, empty_tag, end_tag, char_data, char_ref, entity_ref, cdata_section, comment, pi, declaration, doctype, Spells}
 use Rattle.xt_lex.specs.NameTest.{is_name_byte}
-use Rattle.xt_lex.specs.Scan.{◌>>=◌, maybe, after, after_all, after_chars, cdata_step, comment_step, doctype_step, declared_section, declared, after_target, after_data, instruction, declaration_step, instructed, run, behind, markup, open_tag, undeclared, angled}
+use Rattle.xt_lex.specs.Scan.{◌>>=◌, maybe, after, after_all, after_chars, cdata_step, comment_step, doctype_step, declared_section, declared, after_target, after_data, instruction, instructed, run, behind, markup, open_tag, undeclared, angled}
 use Rattle.xt_lex.proofs.Attributes.{utf8_rest}
 use Rattle.xt_lex.proofs.Cuts.{after_all_takes, after_chars_takes, after_chars_again, is_fresh, lacks_from_fresh, Stays, fresh_from_lacks}
-use Rattle.xt_lex.proofs.Declarations.{declaration_takes, parts_text, declaration_split, declaration_again, declaration_target}
+use Rattle.xt_lex.proofs.Declarations.{declaration_takes, is_values, values_again, values_target}
+use Rattle.xt_lex.specs.XmlDecl.{declared_values}
 use Rattle.xt_lex.proofs.Doctypes.{doctype_takes, doctype_split, doctype_again}
 use Rattle.xt_lex.proofs.NameLemmas.{ncname_passes}
 use Rattle.xt_lex.proofs.Instructions.{target_takes, target_again, data_takes, data_again, data_no_name}
@@ -140,8 +141,8 @@ instructed_takes s r k u h =
     let front = run is_name_byte s in
     elim (cases_Bool (bytes_eq front (codes "xml"))) [
       | inl e ↦
-          let step : (declaration_step (behind is_name_byte s) >>= λ x. Some (declaration, x.1)) ≡ Some (k, r) = rw e at h in
-          let found = bind_some (declaration_step (behind is_name_byte s)) _ _ step in
+          let step : (declared_values.read (behind is_name_byte s) >>= λ x. Some (declaration, x.1)) ≡ Some (k, r) = rw e at h in
+          let found = bind_some (declared_values.read (behind is_name_byte s)) _ _ step in
           let same = pair_parts declaration k found.0.1 r found.2 in
           let is = declaration_takes (behind is_name_byte s) found.0 found.1 in
           let xml : front ≡ codes "xml" = (bytes_eq-Decides front (codes "xml")).0 e in
@@ -210,7 +211,7 @@ again_behind t front inner ending r e = rw e (simp append_assoc)
 instruction_split : (t target inner r : List ℕ) → t ≡ codes "<?" ++ target ++ inner ++ codes "?>" → t ++ r ≡ codes "<?" ++ (target ++ (inner ++ (codes "?>" ++ r)))
 instruction_split t target inner r e = rw e (simp append_assoc)
 
-xml_again : (s rest r : List ℕ) (d : Declaration) → run is_name_byte s ≡ codes "xml" → behind is_name_byte s ≡ rest → declaration_step rest ≡ Some (d, r) → instructed s ≡ Some (declaration, r)
+xml_again : (s rest r : List ℕ) (d : Declaration) → run is_name_byte s ≡ codes "xml" → behind is_name_byte s ≡ rest → declared_values.read rest ≡ Some (d, r) → instructed s ≡ Some (declaration, r)
 unfolding instructed
 xml_again s rest r d front back found = rw front (rw back (rw found refl))
 
@@ -242,9 +243,11 @@ special_again t r pi (target, inner, name, is, e) s =
     let other : bytes_eq (run is_name_byte (target ++ (inner ++ (codes "?>" ++ r)))) (codes "xml") ≡ false = ap (λ t. bytes_eq t (codes "xml")) front ∙ not_xml target name.1 in
     rw split (rw other (rw one (rw two refl)))
 special_again t r declaration (d, is) s =
-    let split = declaration_split d t r is in
-    let target = declaration_target d t r is in
-    rw split (xml_again (codes "xml" ++ parts_text is r) (parts_text is r) r d target.0 target.1 (declaration_again d t r is))
+    let values = is_values d t is in
+    let rest = values.0 ++ r in
+    let split : t ++ r ≡ codes "<?xml" ++ rest = ap (λ t. t ++ r) values.2 in
+    let target = values_target d values.0 r values.1 in
+    rw split (xml_again (codes "xml" ++ rest) rest r d target.0 target.1 (values_again d values.0 r values.1))
 special_again t r doctype is s =
     let split = doctype_split t r is.space is.name is.external is.blank is.brackets is.spelled in
     ap angled split ∙ doctype_again t r is

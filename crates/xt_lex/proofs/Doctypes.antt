@@ -14,7 +14,7 @@ use Rattle.xt_lex.specs.NameTest.{is_name_byte}
 use Rattle.xt_lex.specs.Scan.{◌>>=◌, maybe, run, behind, after, after_all, after_space, after_qname, quoted, are_chars, many, after_system_literal, after_pubid_literal, after_system, after_public, after_external_id, spaced_external_id, after_external, after_subset_part, after_subset, after_brackets, doctype_step}
 use Rattle.xt_lex.proofs.Attributes.{space_takes, space_again, name_solid, utf8_rest}
 use Rattle.xt_lex.proofs.Cuts.{after_all_takes, chars_utf8, chars_from_test, test_from_chars, front_utf8}
-use Rattle.xt_lex.proofs.Declarations.{quoted_takes, quoted_again, quoted_solid, quoted_utf8}
+use Rattle.xt_lex.proofs.Quotes.{quoted_takes, quoted_again, quoted_solid, quoted_utf8}
 use Rattle.xt_lex.proofs.References.{pair_parts}
 use Rattle.xt_lex.proofs.Spelling.{list_all_weaker}
 use Rattle.xt_lex.proofs.StepLemmas.{bind_some, run_split, run_passes, behind_append, after_takes, after_qname_takes, after_qname_again, space_no_name, stops_name, utf8_behind}

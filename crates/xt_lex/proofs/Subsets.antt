@@ -9,7 +9,7 @@ use Rattle.xt_spec.specs.Doctype.{SubsetPart, literal_part, comment_part, pi_par
 use Rattle.xt_lex.specs.Scan.{◌>>=◌, maybe, run, behind, after, after_all, cut, quoted, many_in, many, after_first, after_less, after_marked, is_plain_in_subset, after_subset_part}
 use Rattle.xt_lex.proofs.Attributes.{longer}
 use Rattle.xt_lex.proofs.Cuts.{after_all_takes, cut_takes, cut_fresh_again, lacks_from_fresh, Stays, fresh_from_lacks, no_after, after_begins, begins_longer}
-use Rattle.xt_lex.proofs.Declarations.{quoted_takes, quoted_again}
+use Rattle.xt_lex.proofs.Quotes.{quoted_takes, quoted_again}
 use Rattle.xt_lex.proofs.Instructions.{stays_end}
 use Rattle.xt_lex.proofs.Many.{Shrinks, many_step, many_stop}
 use Rattle.xt_lex.proofs.StepLemmas.{bind_some, run_split, after_takes}

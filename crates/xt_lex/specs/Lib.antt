@@ -5,3 +5,4 @@ pub mod Scan
 pub mod Data
 pub mod Place
 pub mod DeclaredValues
+pub mod XmlDecl

@@ -5,16 +5,13 @@ use Rattle.std.specs.List.{list_all}
 use Rattle.xt_spec.specs.Char.{is_space, is_char}
 use Rattle.xt_spec.specs.Name.{are_ncname_chars}
 use Rattle.xt_spec.specs.Reference.{is_decimal_digit, is_hexadecimal_digit, number_behind}
-use Rattle.xt_spec.specs.Declaration.{Declaration, is_version_num, is_enc_name, is_yes_or_no, is_xml_declaration, is_text_declaration}
 use Rattle.xt_spec.specs.Doctype.{is_pubid_char, is_quote_or_end}
 use Rattle.xt_spec.specs.Markup.{is_reserved}
 use Rattle.xt_spec.specs.Token.{TokenKind, start_tag, empty_tag, end_tag, char_ref, entity_ref, cdata_section, comment, pi, declaration, doctype}
+use Rattle.xt_scan.specs.Form.{read_quoted}
+pub use Rattle.xt_scan.specs.Step.{◌>>=◌, run, behind, after_all}
 use Rattle.xt_lex.specs.NameTest.{is_name_byte, qname}
-
-infixl 10 ◌>>=◌
-abbrev pub ◌>>=◌ : {A B : Type 0} → Option A → (A → Option B) → Option B
-(Some x) >>= f = f x
-None >>= f = None
+use Rattle.xt_lex.specs.XmlDecl.{declared_values}
 
 abbrev pub maybe : {A B : Type 0} → B → (A → B) → Option A → B
 maybe none some None = none
@@ -23,16 +20,6 @@ maybe none some (Some x) = some x
 abbrev pub is_found : {A : Type 0} → Option A → Bool
 is_found None = false
 is_found (Some x) = true
-
--- the longest front each of whose bytes passes
-abbrev pub run : (ℕ → Bool) → List ℕ → List ℕ
-run p [] = []
-run p (b ∷ bs) = if p b then b ∷ run p bs else []
-
--- what follows it
-abbrev pub behind : (ℕ → Bool) → List ℕ → List ℕ
-behind p [] = []
-behind p (b ∷ bs) = if p b then behind p bs else b ∷ bs
 
 -- what follows the byte c
 abbrev pub after : ℕ → List ℕ → Option (List ℕ)
@@ -144,12 +131,6 @@ closing_tag text = after_qname text >>= λ s. after 0x3E (behind is_space s)
 unfoldable pub markup : List ℕ → Option (TokenKind × List ℕ)
 markup text = after 0x3C text >>= λ s. maybe (open_tag s) (λ e. closing_tag e >>= λ r. Some (end_tag, r)) (after 0x2F s)
 
--- what follows the needle at the front
-abbrev pub after_all : List ℕ → List ℕ → Option (List ℕ)
-after_all [] text = Some text
-after_all (c ∷ needle) [] = None
-after_all (c ∷ needle) (b ∷ text) = if b == c then after_all needle text else None
-
 -- one byte more before a cut
 abbrev pub longer_by : ℕ → Option (List ℕ × List ℕ) → Option (List ℕ × List ℕ)
 longer_by b None = None
@@ -180,14 +161,9 @@ cdata_step text = after_chars (codes "]]>") text >>= λ r. Some (cdata_section, 
 abbrev pub comment_step : List ℕ → Option (TokenKind × List ℕ)
 comment_step text = after_chars (codes "--") text >>= λ s. after 0x3E s >>= λ r. Some (comment, r)
 
--- what stands before the second quote, and what follows it
-abbrev pub quoted_by : ℕ → List ℕ → Option (List ℕ × List ℕ)
-quoted_by q text = after q (behind (λ b. not (b == q)) text) >>= λ r. Some (run (λ b. not (b == q)) text, r)
-
 -- what stands between quotes, and what follows them
 abbrev pub quoted : List ℕ → Option (List ℕ × List ℕ)
-quoted [] = None
-quoted (b ∷ bs) = if b == 0x22 || b == 0x27 then quoted_by b bs else None
+quoted = read_quoted
 
 -- behind a literal of Chars, and of PubidChars
 abbrev pub after_system_literal : List ℕ → Option (List ℕ)
@@ -270,58 +246,10 @@ after_data text = maybe (after_space text >>= λ d. after_chars (codes "?>") tex
 abbrev pub instruction : List ℕ → Option (TokenKind × List ℕ)
 instruction text = after_target text >>= λ s. after_data s >>= λ r. Some (pi, r)
 
--- behind S, the word and Eq: the value in quotes, and what follows it
-unfoldable pub word_value : List ℕ → List ℕ → Option (List ℕ × List ℕ)
-word_value word text =
-    after_space text >>= λ n. after_all word n >>= λ e. after 0x3D (behind is_space e) >>= λ v. quoted (behind is_space v)
-
--- .. if it passes the test
-abbrev pub tested : (List ℕ → Bool) → Option (List ℕ × List ℕ) → Option (List ℕ × List ℕ)
-tested test None = None
-tested test (Some x) = if test x.0 then Some x else None
-
-abbrev pub optional : List ℕ → Option (List ℕ × List ℕ) → Option (List ℕ) × List ℕ
-optional text None = (None, text)
-optional text (Some x) = (Some x.0, x.1)
-
--- a part of a declaration, where it is written, and what follows it
-abbrev pub part : List ℕ → (List ℕ → Bool) → List ℕ → Option (List ℕ) × List ℕ
-part word test text = optional text (tested test (word_value word text))
-
-abbrev pub version_part : List ℕ → Option (List ℕ) × List ℕ
-version_part text = part (codes "version") is_version_num text
-
-abbrev pub encoding_part : List ℕ → Option (List ℕ) × List ℕ
-encoding_part text = part (codes "encoding") is_enc_name text
-
-abbrev pub standalone_part : List ℕ → Option (List ℕ) × List ℕ
-standalone_part text = part (codes "standalone") is_yes_or_no text
-
--- the declaration, if it has one of the two forms, and its end follows
-abbrev pub formed : Declaration → Option (List ℕ) → Option (Declaration × List ℕ)
-formed d None = None
-formed d (Some r) = if is_xml_declaration d || is_text_declaration d then Some (d, r) else None
-
-abbrev pub declaration_by : Option (List ℕ) × List ℕ → Option (List ℕ) × List ℕ → Option (List ℕ) × List ℕ → Option (Declaration × List ℕ)
-declaration_by v e s = formed (record { version = v.0; encoding = e.0; standalone = s.0 }) (after_all (codes "?>") (behind is_space s.1))
-
--- behind `<?xml`
-unfoldable pub declaration_step : List ℕ → Option (Declaration × List ℕ)
-declaration_step text =
-    declaration_by (version_part text) (encoding_part (version_part text).1) (standalone_part (encoding_part (version_part text).1).1)
-
-abbrev pub all_read : Declaration → List ℕ → Option Declaration
-all_read d [] = Some d
-all_read d (b ∷ bs) = None
-
--- of a declaration that is the whole text
-unfoldable pub whole_declaration : List ℕ → Option Declaration
-whole_declaration text = after_all (codes "<?xml") text >>= λ r. declaration_step r >>= λ x. all_read x.0 x.1
-
 -- behind `<?`: a declaration, where the target is `xml`; else a PI
 unfoldable pub instructed : List ℕ → Option (TokenKind × List ℕ)
 instructed text =
-    if bytes_eq (run is_name_byte text) (codes "xml") then (declaration_step (behind is_name_byte text) >>= λ x. Some (declaration, x.1)) else instruction text
+    if bytes_eq (run is_name_byte text) (codes "xml") then (declared_values.read (behind is_name_byte text) >>= λ x. Some (declaration, x.1)) else instruction text
 
 -- a token that begins with `<`, and not with `<!`
 unfoldable pub undeclared : List ℕ → Option (TokenKind × List ℕ)

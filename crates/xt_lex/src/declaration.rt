@@ -1,15 +1,17 @@
 //! The XML declaration and the text declaration.
 
-ghost use Rattle.std.specs.Prelude.{◌≡◌, ◌<◌, option_map, IfSome};
+ghost use Rattle.std.specs.Prelude.{◌≡◌, Some, option_map, IfSome};
 ghost use Rattle.std.specs.List.{list_all};
 ghost use Rattle.std.specs.Option.{option_copied, IfNone};
 ghost use Rattle.xt_spec.specs.Declaration as spec;
 ghost use Rattle.xt_spec.specs.Reference.{is_decimal_digit};
-ghost use Rattle.xt_lex.specs.Scan.{quoted_by, quoted, word_value, tested, version_part, encoding_part, standalone_part, declaration_step, whole_declaration};
+ghost use Rattle.xt_scan.specs.Form.{space, word as form_word, any_quoted, ◌>>>◌};
+ghost use Rattle.xt_scan.specs.Front.{whole};
+ghost use Rattle.xt_scan.specs.Step.{maybe_read};
+ghost use Rattle.xt_lex.specs.XmlDecl as form;
 ghost use Rattle.xt_lex.specs.DeclaredValues.{values_of};
 
-use crate::attribute::split_value;
-use crate::front::{after, after_all, after_blank, after_space};
+use xt_scan::{after_blank, after_space, after_word, quoted};
 
 /// What a declaration declares: the values that are written, without their quotes.
 #[derive(Clone, Copy, Debug, PartialEq, Eq)]
@@ -75,75 +77,63 @@ fn is_yes_or_no(text: &str) -> bool
     text == "yes" || text == "no"
 }
 
-/// What stands in quotes up to the second one, and what follows it.
-fn quoted_by(quote: u8, text: &str) -> Option<(&str, &str)>
-    requires { quote < 128 }
-    ensures { option_map (λ x. (x.0.now, x.1.now)) result ≡ quoted_by quote text.now }
+fn after_equals(text: &str) -> Option<&str>
+    ensures { option_map (λ x. (tt, x.now)) result ≡ form.equals.read text.now }
 {
-    let (value, rest) = split_value(quote, text);
-    let rest = after(quote as char, rest)?;
-    Some((value, rest))
-}
-
-/// What stands between quotes, and what follows them.
-pub(crate) fn quoted(text: &str) -> Option<(&str, &str)>
-    ensures { option_map (λ x. (x.0.now, x.1.now)) result ≡ quoted text.now }
-{
-    match after('"', text) {
-        Some(rest) => quoted_by(b'"', rest),
-        None => match after('\'', text) {
-            Some(rest) => quoted_by(b'\'', rest),
-            None => None,
-        },
-    }
+    let rest = after_word("=", after_blank(text))?;
+    Some(after_blank(rest))
 }
 
 /// Behind white space, the word and Eq: the value in quotes, and what follows it.
-#[tactic(auto, unfolding(crate::specs::Scan::word_value))]
 fn word_value<'a>(word: &str, text: &'a str) -> Option<(&'a str, &'a str)>
-    ensures { option_map (λ x. (x.0.now, x.1.now)) result ≡ word_value word.now text.now }
+    ensures { option_map (λ x. (x.0.now, x.1.now)) result ≡ (space >>> form_word word.now >>> form.equals >>> any_quoted).read text.now }
 {
-    let rest = after_space(text)?;
-    let rest = after_all(word, rest)?;
-    let rest = after('=', after_blank(rest))?;
-    quoted(after_blank(rest))
+    let rest = after_word(word, after_space(text)?)?;
+    quoted(after_equals(rest)?)
 }
 
-fn version_part(text: &str) -> (Option<&str>, &str)
-    ensures { (option_copied result.0, result.1.now) ≡ version_part text.now }
+#[tactic(auto, unfolding(crate::specs::XmlDecl::version))]
+fn version(text: &str) -> Option<(&str, &str)>
+    ensures { option_map (λ x. (x.0.now, x.1.now)) result ≡ form.version.read text.now }
 {
-    match word_value("version", text) {
-        Some((value, rest)) => if is_version_num(value.as_bytes()) {
-            (Some(value), rest)
-        } else {
-            (None, text)
-        },
-        None => (None, text),
+    let (value, rest) = word_value("version", text)?;
+    if is_version_num(value.as_bytes()) {
+        Some((value, rest))
+    } else {
+        None
     }
 }
 
-fn encoding_part(text: &str) -> (Option<&str>, &str)
-    ensures { (option_copied result.0, result.1.now) ≡ encoding_part text.now }
+#[tactic(auto, unfolding(crate::specs::XmlDecl::encoding))]
+fn encoding(text: &str) -> Option<(&str, &str)>
+    ensures { option_map (λ x. (x.0.now, x.1.now)) result ≡ form.encoding.read text.now }
 {
-    match word_value("encoding", text) {
-        Some((value, rest)) => if is_enc_name(value.as_bytes()) {
-            (Some(value), rest)
-        } else {
-            (None, text)
-        },
-        None => (None, text),
+    let (value, rest) = word_value("encoding", text)?;
+    if is_enc_name(value.as_bytes()) {
+        Some((value, rest))
+    } else {
+        None
     }
 }
 
-fn standalone_part(text: &str) -> (Option<&str>, &str)
-    ensures { (option_copied result.0, result.1.now) ≡ standalone_part text.now }
+#[tactic(auto, unfolding(crate::specs::XmlDecl::standalone))]
+fn standalone(text: &str) -> Option<(&str, &str)>
+    ensures { option_map (λ x. (x.0.now, x.1.now)) result ≡ form.standalone.read text.now }
 {
-    match word_value("standalone", text) {
-        Some((value, rest)) => if is_yes_or_no(value) {
-            (Some(value), rest)
-        } else {
-            (None, text)
-        },
+    let (value, rest) = word_value("standalone", text)?;
+    if is_yes_or_no(value) {
+        Some((value, rest))
+    } else {
+        None
+    }
+}
+
+/// What was found, or nothing and the text as it was.
+fn maybe<'a>(found: Option<(&'a str, &'a str)>, text: &'a str) -> (Option<&'a str>, &'a str)
+    ensures { Some (option_copied result.0, result.1.now) ≡ maybe_read text.now (option_map (λ x. (x.0.now, x.1.now)) found.entry) }
+{
+    match found {
+        Some((value, rest)) => (Some(value), rest),
         None => (None, text),
     }
 }
@@ -163,6 +153,13 @@ impl Declaration<'_> {
         self.encoding.is_some() && self.standalone.is_none()
     }
 
+    /// Whether it is one of both.
+    fn has_form(self) -> bool
+        ensures { result ≡ form.has_form (values_of self.entry) }
+    {
+        self.is_xml_declaration() || self.is_text_declaration()
+    }
+
     /// Whether no encoding is declared, or UTF-8 in any letter case.
     pub fn is_utf8_or_absent(self) -> bool
         ensures { result ≡ spec.is_utf8_or_absent (values_of self.entry).encoding }
@@ -175,20 +172,20 @@ impl Declaration<'_> {
 }
 
 /// Behind `<?xml`: what is declared, and what follows the declaration.
-#[tactic(auto, unfolding(crate::specs::Scan::declaration_step))]
+#[tactic(auto, unfolding(crate::specs::XmlDecl::declared_values))]
 pub(crate) fn declared_values(text: &str) -> Option<(Declaration<'_>, &str)>
-    ensures { option_map (λ x. (values_of x.0, x.1.now)) result ≡ declaration_step text.now }
+    ensures { option_map (λ x. (values_of x.0, x.1.now)) result ≡ form.declared_values.read text.now }
 {
-    let (version, rest) = version_part(text);
-    let (encoding, rest) = encoding_part(rest);
-    let (standalone, rest) = standalone_part(rest);
-    let rest = after_all("?>", after_blank(rest))?;
+    let (version, rest) = maybe(version(text), text);
+    let (encoding, rest) = maybe(encoding(rest), rest);
+    let (standalone, rest) = maybe(standalone(rest), rest);
+    let rest = after_word("?>", after_blank(rest))?;
     let declaration = Declaration {
         version,
         encoding,
         standalone,
     };
-    if declaration.is_xml_declaration() || declaration.is_text_declaration() {
+    if declaration.has_form() {
         Some((declaration, rest))
     } else {
         None
@@ -196,12 +193,11 @@ pub(crate) fn declared_values(text: &str) -> Option<(Declaration<'_>, &str)>
 }
 
 /// What the whole text, a declaration, declares.
-#[tactic(auto, unfolding(crate::specs::Scan::whole_declaration))]
+#[tactic(auto, unfolding(crate::specs::XmlDecl::xml_decl))]
 fn whole_declaration(text: &str) -> Option<Declaration<'_>>
-    ensures { option_map values_of result ≡ whole_declaration text.now }
+    ensures { option_map values_of result ≡ whole (form.xml_decl.read text.now) }
 {
-    let rest = after_all("<?xml", text)?;
-    let (declaration, rest) = declared_values(rest)?;
+    let (declaration, rest) = declared_values(after_word("<?xml", text)?)?;
     if rest.is_empty() {
         Some(declaration)
     } else {

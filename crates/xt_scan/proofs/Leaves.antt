@@ -1,0 +1,300 @@
+-- The laws of what forms are made of.
+use Rattle.std.proofs.Common.{◌≡◌, ◌≢◌, ℕ, ◌<◌, List, [], ◌∷◌, ◌++◌, Bool, true, false, not, ◌||◌, ◌&&◌, eqb, ltb, refl, ap, sym, subst, IsTrue, ◌∙◌, arith, inl, inr, Option, Some, None, eqb-true, eq-eqb, append_assoc}
+use Rattle.std.proofs.lemmas.Bool.{cases_Bool, and_parts, and_from, both_ways, or_cases, not-true}
+use Rattle.std.proofs.lemmas.Bool.Decides.{nat_tests}
+use Rattle.std.proofs.lemmas.Slice.Eq.{bytes_eq-Decides}
+use Rattle.std.specs.List.{list_all}
+use Rattle.std.specs.Str.{IsUtf8}
+use Rattle.xt_spec.specs.Char.{is_space}
+use Rattle.xt_spec.specs.Tag.{IsBlank, IsSpace, IsQuote}
+use Rattle.xt_spec.specs.Declaration.{IsQuoted}
+use Rattle.xt_scan.specs.Look.{Span, from_to, in_class, Look, sees_behind, sees, solid_in, spaced_any, spaced_by}
+use Rattle.xt_scan.specs.Step.{run, behind, after_all}
+use Rattle.xt_scan.specs.Form.{word, blank, read_space, space, piece, is_letter, letters, is_among, keyword, read_to_quote, read_quoted, tested, quoted, quoted_text, quoted_ascii, first_of_word}
+use Rattle.xt_scan.proofs.Looks.{spaced_sees, not_spaced}
+use Rattle.xt_scan.proofs.Steps.{bind_some, run_split, run_passes, Stops, run_again, stops_at, after_all_takes, after_all_again, all_weaker}
+use Rattle.xt_scan.proofs.Texts.{Texts, utf8_texts}
+use Rattle.xt_scan.proofs.Laws.{Leads, Lawful, tested_some}
+
+-- ---- these bytes: some, the first no white space, all ASCII
+abbrev pub is_word : List ℕ → Bool
+is_word [] = false
+is_word (c ∷ cs) = not (is_space c) && list_all (λ b. ltb b 128) (c ∷ cs)
+
+byte_in : (c : ℕ) → in_class (from_to c c ∷ []) c ≡ true
+byte_in c = grind (arith, nat_tests)
+
+word_leads : (w t : List ℕ) → is_word w ≡ true → t ≡ w → Leads false (λ l. solid_in (first_of_word w)) t
+word_leads [] t h e = absurd (cc)
+word_leads (c ∷ cs) t h e =
+    let first : is_space c ≡ false = not-true _ (and_parts _ _ h).0 in
+    inr (λ n. absurd (cc), λ l r i. rw e (rw first (byte_in c)))
+
+word_text : {T : List ℕ → Type 0} → Texts T → (w : List ℕ) → is_word w ≡ true → T w
+word_text texts [] h = absurd (cc)
+word_text texts (c ∷ cs) h = texts.ascii (c ∷ cs) (and_parts _ _ h).1
+
+pub lawful_word : {T : List ℕ → Type 0} → Texts T → (w : List ℕ) → is_word w ≡ true → Lawful T (word w)
+lawful_word {T} texts w h = record {
+  takes = λ s v r u e.
+      let x = bind_some (after_all w s) _ _ e in
+      let same : ◌≡◌ {A = Unit {0} × List ℕ} (tt, x.0) (v, r) = cc (x.2) in
+      (w, refl, after_all_takes w s x.0 x.1 ∙ ap (λ r. w ++ r) (ap (λ p. p.1) same));
+  again = λ v t r u s out. let found = after_all_again w r in rw s (rw found refl);
+  leads = λ v t s. word_leads w t h s;
+  is_text = λ v t s. subst T (sym s) (word_text texts w h);
+}
+
+-- ---- white space
+
+blank_leads : (t r : List ℕ) (l : Look) → IsBlank t → sees l r ≡ true → sees_behind (spaced_by l) (t ++ r) ≡ true
+blank_leads [] r l h i = spaced_sees l r i
+blank_leads (b ∷ bs) r l h i =
+    let both = and_parts _ _ h in
+    let first : is_space b ≡ true = both.0 in
+    rw first (blank_leads bs r l both.1 i)
+
+some_blank : (t : List ℕ) → IsBlank t → t ≢ [] → (l : Look) (r : List ℕ) → sees l r ≡ true → sees (spaced_by l) (t ++ r) ≡ true
+some_blank [] h some l r i = absurd (some refl)
+some_blank (b ∷ bs) h some l r i =
+    let both = and_parts _ _ h in
+    let first : is_space b ≡ true = both.0 in
+    rw first (blank_leads bs r l both.1 i)
+
+blank_or : (t : List ℕ) → IsBlank t → Leads true spaced_by t
+blank_or [] h = inl (refl, refl)
+blank_or (b ∷ bs) h = inr (λ n. absurd (cc), some_blank (b ∷ bs) h (λ n. absurd (cc)))
+
+no_space : (r : List ℕ) → sees spaced_any r ≡ false → Stops is_space r
+no_space r out = stops_at is_space r (not_spaced r out)
+
+space_small : (b : ℕ) → is_space b ≡ true → ltb b 128 ≡ true
+space_small b h = grind (arith, nat_tests)
+
+blank_text : {T : List ℕ → Type 0} → Texts T → (t : List ℕ) → IsBlank t → T t
+blank_text texts t h = texts.ascii t (all_weaker is_space (λ b. ltb b 128) space_small t h)
+
+pub lawful_blank : {T : List ℕ → Type 0} → Texts T → Lawful T blank
+lawful_blank texts = record {
+  takes = λ s v r u e.
+      let same : ◌≡◌ {A = Unit {0} × List ℕ} (tt, behind is_space s) (v, r) = cc in
+      (run is_space s, run_passes is_space s, run_split is_space s ∙ ap (λ r. run is_space s ++ r) (ap (λ p. p.1) same));
+  again = λ v t r u s out. let again = (run_again is_space t r s (no_space r out)).1 in rw again refl;
+  leads = λ v t s. blank_or t s;
+  is_text = λ v t s. blank_text texts t s;
+}
+
+space_takes : (s r : List ℕ) (v : Unit {0}) → read_space s ≡ Some (v, r) → (t : List ℕ) × IsSpace t × (s ≡ t ++ r)
+space_takes [] r v h = absurd (cc)
+space_takes (b ∷ bs) r v h =
+    elim (cases_Bool (is_space b)) [
+      | inl e ↦
+          let rest : ◌≡◌ {A = Option (Unit {0} × List ℕ)} (Some (tt, behind is_space bs)) (Some (v, r)) = rw e at h in
+          let same : ◌≡◌ {A = Unit {0} × List ℕ} (tt, behind is_space bs) (v, r) = cc in
+          (b ∷ run is_space bs, (and_from _ _ e (run_passes is_space bs), λ n. absurd (cc)), ap (λ t. b ∷ t) (run_split is_space bs ∙ ap (λ t. run is_space bs ++ t) (ap (λ p. p.1) same)))
+      | inr e ↦ let none : ◌≡◌ {A = Option (Unit {0} × List ℕ)} None (Some (v, r)) = rw e at h in absurd (cc)
+    ]
+
+space_again : (t r : List ℕ) (v : Unit {0}) → IsSpace t → sees spaced_any r ≡ false → read_space (t ++ r) ≡ Some (v, r)
+space_again [] r v h out = absurd (h.1 refl)
+space_again (b ∷ bs) r v h out =
+    let both = and_parts _ _ h.0 in
+    let first : is_space b ≡ true = both.0 in
+    let rest = (run_again is_space bs r both.1 (no_space r out)).1 in
+    rw first (rw rest refl)
+
+pub lawful_space : {T : List ℕ → Type 0} → Texts T → Lawful T space
+lawful_space texts = record {
+  takes = λ s v r u h. space_takes s r v h;
+  again = λ v t r u s out. space_again t r v s out;
+  leads = λ v t s. inr (s.1, some_blank t s.0 s.1);
+  is_text = λ v t s. blank_text texts t s.0;
+}
+
+-- ---- the longest front of some bytes
+
+-- the bytes are in the class and no white space; the test is that of texts of such bytes, of which there are some
+pub record IsPiece (T : List ℕ → Type 0) (p : ℕ → Bool) (c : List Span) (test : List ℕ → Bool) (Is : List ℕ → Type 0) : Type 0 where
+  pub in_ : (b : ℕ) → p b ≡ true → in_class c b ≡ true
+  pub solid : (b : ℕ) → p b ≡ true → is_space b ≡ false
+  pub cuts : (s : List ℕ) → T s → T (run p s)
+  pub from : (t : List ℕ) → T t → list_all p t ≡ true → test t ≡ true → Is t
+  pub to : (t : List ℕ) → Is t → test t ≡ true
+  pub all : (t : List ℕ) → Is t → list_all p t ≡ true
+  pub some : (t : List ℕ) → Is t → t ≢ []
+  pub is_text : (t : List ℕ) → Is t → T t
+
+module _ {T : List ℕ → Type 0} (p : ℕ → Bool) (c : List Span) (test : List ℕ → Bool) (Is : List ℕ → Type 0) (is : IsPiece T p c test Is) where
+  piece_leads : (t r : List ℕ) → Is t → sees (solid_in c) (t ++ r) ≡ true
+  piece_leads [] r h = absurd (is.some [] h refl)
+  piece_leads (b ∷ bs) r h =
+      let first = (and_parts _ _ (is.all (b ∷ bs) h)).0 in
+      let solid : is_space b ≡ false = is.solid b first in
+      rw solid (is.in_ b first)
+
+  piece_stops : (r : List ℕ) → sees (solid_in c) r ≡ false → Stops p r
+  piece_stops r out = stops_at p r (λ b bs e. stop b bs (subst (λ r. sees (solid_in c) r ≡ false) e out))
+    where
+      stop : (b : ℕ) (bs : List ℕ) → sees (solid_in c) (b ∷ bs) ≡ false → p b ≡ false
+      stop b bs out =
+          elim (cases_Bool (p b)) [
+            | inl e ↦
+                let solid : is_space b ≡ false = is.solid b e in
+                let bad : in_class c b ≡ false = rw solid at out in
+                absurd (both_ways _ bad (is.in_ b e))
+            | inr e ↦ e
+          ]
+
+  piece_takes : (s v r : List ℕ) → T s → (piece p c test Is).read s ≡ Some (v, r) → (t : List ℕ) × (piece p c test Is).Spells v t × (s ≡ t ++ r)
+  piece_takes s v r u h =
+      elim (cases_Bool (test (run p s))) [
+        | inl e ↦
+            let rest : ◌≡◌ {A = Option (List ℕ × List ℕ)} (Some (run p s, behind p s)) (Some (v, r)) = rw e at h in
+            let same : ◌≡◌ {A = List ℕ × List ℕ} (run p s, behind p s) (v, r) = cc in
+            let first : run p s ≡ v = ap (λ p. p.0) same in
+            (run p s, (first, subst Is first (is.from (run p s) (is.cuts s u) (run_passes p s) e)), run_split p s ∙ ap (λ r. run p s ++ r) (ap (λ p. p.1) same))
+        | inr e ↦ let none : ◌≡◌ {A = Option (List ℕ × List ℕ)} None (Some (v, r)) = rw e at h in absurd (cc)
+      ]
+
+  piece_again : (v t r : List ℕ) → (piece p c test Is).Spells v t → sees (solid_in c) r ≡ false → (piece p c test Is).read (t ++ r) ≡ Some (v, r)
+  piece_again v t r s out =
+      let again = run_again p v r (is.all v s.1) (piece_stops r out) in
+      let passes = is.to v s.1 in
+      let same : t ≡ v = s.0 in
+      rw (same, again.0, again.1, passes) refl
+
+  pub lawful_piece : Lawful T (piece p c test Is)
+  lawful_piece = record {
+    takes = piece_takes;
+    again = λ v t r u s out. piece_again v t r s out;
+    leads = λ v t s. inr (λ n. is.some v s.1 (sym s.0 ∙ n), λ l r i. subst (λ t. sees (solid_in c) (t ++ r) ≡ true) (sym s.0) (piece_leads v r s.1));
+    is_text = λ v t s. subst T (sym s.0) (is.is_text v s.1);
+  }
+
+-- ---- one of some words
+
+abbrev pub is_some_letters : List ℕ → Bool
+is_some_letters [] = false
+is_some_letters (b ∷ bs) = list_all is_letter (b ∷ bs)
+
+among_all : (q : List ℕ → Bool) (words : List (List ℕ)) (t : List ℕ) → list_all q words ≡ true → is_among words t ≡ true → q t ≡ true
+among_all q [] t all h = absurd (cc)
+among_all q (w ∷ []) t all h = subst (λ t. q t ≡ true) (sym ((bytes_eq-Decides t w).0 h)) (and_parts _ _ all).0
+among_all q (w ∷ x ∷ ws) t all h =
+    let both = and_parts _ _ all in
+    elim (or_cases _ _ h) [
+      | inl e ↦ subst (λ t. q t ≡ true) (sym ((bytes_eq-Decides t w).0 e)) both.0
+      | inr e ↦ among_all q (x ∷ ws) t both.1 e
+    ]
+
+letter_in : (b : ℕ) → is_letter b ≡ true → in_class letters b ≡ true
+letter_in b h = grind (arith, nat_tests)
+
+letter_solid : (b : ℕ) → is_letter b ≡ true → is_space b ≡ false
+letter_solid b h = grind (arith, nat_tests)
+
+letter_small : (b : ℕ) → is_letter b ≡ true → ltb b 128 ≡ true
+letter_small b h = grind (arith, nat_tests)
+
+letters_parts : (t : List ℕ) → is_some_letters t ≡ true → (list_all is_letter t ≡ true) × (t ≢ [])
+letters_parts [] h = absurd (cc)
+letters_parts (b ∷ bs) h = (h, λ n. absurd (cc))
+
+pub lawful_keyword : {T : List ℕ → Type 0} → Texts T → (words : List (List ℕ)) → list_all is_some_letters words ≡ true → Lawful T (keyword words)
+lawful_keyword texts words all =
+    let parts : (t : List ℕ) → is_among words t ≡ true → (list_all is_letter t ≡ true) × (t ≢ []) = λ t h. letters_parts t (among_all is_some_letters words t all h) in
+    lawful_piece is_letter letters (is_among words) (λ t. IsTrue (is_among words t)) (record {
+      in_ = letter_in;
+      solid = letter_solid;
+      cuts = λ s u. texts.ascii (run is_letter s) (all_weaker is_letter (λ b. ltb b 128) letter_small (run is_letter s) (run_passes is_letter s));
+      from = λ t u p h. h;
+      to = λ t h. h;
+      all = λ t h. (parts t h).0;
+      some = λ t h. (parts t h).1;
+      is_text = λ t h. texts.ascii t (all_weaker is_letter (λ b. ltb b 128) letter_small t (parts t h).0);
+    })
+
+-- ---- in quotes
+
+pub record IsInner (T : List ℕ → Type 0) (test : List ℕ → Bool) (Is : List ℕ → Type 0) : Type 0 where
+  pub from : (t : List ℕ) → T t → test t ≡ true → Is t
+  pub to : (t : List ℕ) → Is t → test t ≡ true
+  pub is_text : (t : List ℕ) → Is t → T t
+
+quote_is : (b : ℕ) → (eqb b 34 || eqb b 39) ≡ true → IsQuote b
+quote_is b h = elim (or_cases _ _ h) [ inl e ↦ inl (eqb-true b 34 e) | inr e ↦ inr (eqb-true b 39 e) ]
+
+quote_tests : (q : ℕ) → IsQuote q → (eqb q 34 || eqb q 39) ≡ true
+quote_tests q (inl e) = rw e refl
+quote_tests q (inr e) = rw e refl
+
+quote_small : (q : ℕ) → IsQuote q → q < 128
+quote_small q (inl e) = omega arith
+quote_small q (inr e) = omega arith
+
+quoted_leads : (v t : List ℕ) → IsQuoted v t → (t ≢ []) × ((r : List ℕ) → sees (solid_in (from_to 0x22 0x22 ∷ from_to 0x27 0x27 ∷ [])) (t ++ r) ≡ true)
+quoted_leads v t (q, inl is, lacks, e) = (λ n. absurd (cc), λ r. rw (e, is) refl)
+quoted_leads v t (q, inr is, lacks, e) = (λ n. absurd (cc), λ r. rw (e, is) refl)
+
+quote_text : {T : List ℕ → Type 0} → Texts T → (q : ℕ) → IsQuote q → T (q ∷ [])
+quote_text texts q (inl is) = rw is (texts.ascii (34 ∷ []) refl)
+quote_text texts q (inr is) = rw is (texts.ascii (39 ∷ []) refl)
+
+to_quote : (q : ℕ) (s v r : List ℕ) → IsQuote q → read_to_quote q s ≡ Some (v, r) → (t : List ℕ) × IsQuoted v t × (q ∷ s ≡ t ++ r) × (s ≡ v ++ (q ∷ r))
+to_quote q s v r quote h =
+    let p = λ (b : ℕ). not (eqb b q) in
+    let x = bind_some (after_all (q ∷ []) (behind p s)) _ _ h in
+    let same : ◌≡◌ {A = List ℕ × List ℕ} (run p s, x.0) (v, r) = cc (x.2) in
+    let first : run p s ≡ v = ap (λ p. p.0) same in
+    let rest : x.0 ≡ r = ap (λ p. p.1) same in
+    let split : s ≡ v ++ (q ∷ r) = run_split p s ∙ ap (λ t. run p s ++ t) (after_all_takes (q ∷ []) (behind p s) x.0 x.1) ∙ ap (λ v. v ++ (q ∷ x.0)) first ∙ ap (λ r. v ++ (q ∷ r)) rest in
+    ((q ∷ v) ++ q ∷ [], (q, quote, subst (λ v. list_all p v ≡ true) first (run_passes p s), refl), ap (λ t. q ∷ t) (split ∙ sym (append_assoc v (q ∷ []) r)), split)
+
+-- what is read in quotes, and that it is text
+pub any_quoted_takes : {T : List ℕ → Type 0} → Texts T → (s v r : List ℕ) → T s → read_quoted s ≡ Some (v, r) → (t : List ℕ) × IsQuoted v t × (s ≡ t ++ r) × T v
+any_quoted_takes texts [] v r u h = absurd (cc)
+any_quoted_takes {T} texts (b ∷ bs) v r u h =
+    elim (cases_Bool (eqb b 34 || eqb b 39)) [
+      | inl e ↦
+          let quote = quote_is b e in
+          let small = quote_small b quote in
+          let found = to_quote b bs v r quote (rw e at h) in
+          (found.0, found.1, found.2, texts.front v b r small (subst T found.3 (texts.rest (b ∷ bs) (b ∷ []) bs u (quote_text texts b quote) refl)))
+      | inr e ↦ let none : ◌≡◌ {A = Option (List ℕ × List ℕ)} None (Some (v, r)) = rw e at h in absurd (cc)
+    ]
+
+quote_again : (q : ℕ) (v r : List ℕ) → list_all (λ b. not (eqb b q)) v ≡ true → read_to_quote q (v ++ (q ∷ r)) ≡ Some (v, r)
+quote_again q v r lacks =
+    let p = λ (b : ℕ). not (eqb b q) in
+    let here : eqb q q ≡ true = eq-eqb q q refl in
+    let again = run_again p v (q ∷ r) lacks (rw here refl, rw here refl) in
+    rw (again.0, again.1) (rw here refl)
+
+pub any_quoted_again : (v t r : List ℕ) → IsQuoted v t → read_quoted (t ++ r) ≡ Some (v, r)
+any_quoted_again v t r (q, quote, lacks, e) =
+    let split : t ++ r ≡ q ∷ (v ++ (q ∷ r)) = ap (λ t. t ++ r) e ∙ ap (λ t. q ∷ t) (append_assoc v (q ∷ []) r) in
+    let tests = quote_tests q quote in
+    let found = quote_again q v r lacks in
+    rw split (rw tests found)
+
+module _ {T : List ℕ → Type 0} (texts : Texts T) (test : List ℕ → Bool) (Is : List ℕ → Type 0) (is : IsInner T test Is) where
+  quoted_takes : (s v r : List ℕ) → T s → tested test (read_quoted s) ≡ Some (v, r) → (t : List ℕ) × (quoted test Is).Spells v t × (s ≡ t ++ r)
+  quoted_takes s v r u h =
+      let x = tested_some test (read_quoted s) (v, r) h in
+      let found = any_quoted_takes texts s v r u x.0 in
+      (found.0, (is.from v found.3 x.1, found.1), found.2)
+
+  pub lawful_quoted : Lawful T (quoted test Is)
+  lawful_quoted = record {
+    takes = quoted_takes;
+    again = λ v t r u s out. let found = any_quoted_again v t r s.1 in let passes = is.to v s.0 in rw found (rw passes refl);
+    leads = λ v t s. let lead = quoted_leads v t s.1 in inr (lead.0, λ l r i. lead.1 r);
+    is_text = λ v t s. subst T (sym s.1.3) (texts.joined (s.1.0 ∷ v) (s.1.0 ∷ []) (texts.joined (s.1.0 ∷ []) v (quote_text texts s.1.0 s.1.1) (is.is_text v s.0)) (quote_text texts s.1.0 s.1.1));
+  }
+
+pub lawful_quoted_text : (test : List ℕ → Bool) → Lawful IsUtf8 (quoted_text test)
+lawful_quoted_text test = lawful_quoted utf8_texts test (λ t. IsUtf8 t × IsTrue (test t)) (record { from = λ t u h. (u, h); to = λ t h. h.1; is_text = λ t h. h.0 })
+
+-- where the test lets ASCII alone pass, over any kind of text
+pub lawful_quoted_ascii : {T : List ℕ → Type 0} → Texts T → (test : List ℕ → Bool) → ((t : List ℕ) → test t ≡ true → list_all (λ b. ltb b 128) t ≡ true) → Lawful T (quoted_ascii test)
+lawful_quoted_ascii texts test small = lawful_quoted texts test (λ t. IsTrue (test t)) (record { from = λ t u h. h; to = λ t h. h; is_text = λ t h. texts.ascii t (small t h) })

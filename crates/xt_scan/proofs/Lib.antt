@@ -1,0 +1,7 @@
+pub mod Looks
+pub mod Steps
+pub mod Texts
+pub mod Laws
+pub mod Leaves
+pub mod Theorems
+pub mod Calls
