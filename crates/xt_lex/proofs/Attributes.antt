@@ -5,7 +5,6 @@ use Rattle.std.proofs.lemmas.List.{length-append}
 use Rattle.std.specs.List.{AllByRecursion, concat}
 use Rattle.std.specs.Str.{IsUtf8}
 use Rattle.std.proofs.lemmas.Str.{chars-nil, IsUtf8-append, IsUtf8-nil}
-use lib.Utf8.{scalars}
 use Rattle.xt_spec.specs.Char.{is_space}
 use Rattle.xt_spec.specs.Name.{IsQName}
 use Rattle.xt_spec.specs.Tag.{IsBlank, IsSpace, Attribute, attribute_text, IsAttribute}
@@ -13,20 +12,10 @@ use Rattle.xt_lex.specs.NameTest.{is_name_byte, qname}
 use Rattle.xt_lex.specs.Scan.{run, behind, after, after_qname, after_space, after_quoted, Rests, attribute_rests, attribute}
 use Rattle.xt_lex.proofs.Many.{Shrinks}
 use Rattle.xt_lex.proofs.NameLemmas.{qname_nonempty, qname_bytes}
-use Rattle.xt_lex.proofs.Spelling.{strip}
 use Rattle.xt_lex.proofs.StepLemmas.{bind_some, run_split, run_passes, behind_append, after_takes, after_qname_takes, space_no_name, tag_again, utf8_behind}
 use Rattle.xt_lex.proofs.Utf8.{blank_utf8, qname_utf8, ascii}
 use Rattle.xt_lex.proofs.Values.{behind_shorter, quoted_takes, quoted_again, quoted_utf8, quoted_shorter}
-
-scalars_behind : (cs es : List ℕ) → scalars (cs ++ es) ≡ true → scalars es ≡ true
-scalars_behind [] es h = h
-scalars_behind (c ∷ cs) es h = scalars_behind cs es (and_parts _ _ h).1
-
--- what follows text within text is text
-pub utf8_rest : (s p r : List ℕ) → IsUtf8 s → IsUtf8 p → s ≡ p ++ r → IsUtf8 r
-utf8_rest s p r u v e =
-    let rest = strip u.0 v.0 r (u.1.1 ∙ e ∙ ap (λ t. t ++ r) (sym v.1.1)) in
-    (rest.0, (scalars_behind v.0 rest.0 (subst (λ cs. scalars cs ≡ true) rest.1 u.1.0), rest.2))
+pub use Rattle.xt_scan.proofs.Steps.{utf8_rest}
 
 pub space_takes : (s r : List ℕ) → after_space s ≡ Some r → (p : List ℕ) × IsSpace p × (s ≡ p ++ r)
 space_takes [] r h = absurd (cc)

@@ -1,15 +1,12 @@
 -- A text up to the first place where a needle stands in it.
-use Rattle.std.proofs.Common.{zero, suc, ◌≡◌, ◌≢◌, ℕ, ◌+◌, ◌-◌, ◌<◌, List, [], ◌∷◌, ◌++◌, length, get_or, take, drop, Bool, true, false, not, ◌&&◌, eqb, ltb-true, lt-ltb, refl, ap, sym, subst, ◌∙◌, arith, inl, inr, Option, Some, None, eqb-true, eq-eqb, encode_utf8_all}
+use Rattle.std.proofs.Common.{zero, suc, ◌≡◌, ◌≢◌, ℕ, ◌+◌, ◌-◌, ◌<◌, List, [], ◌∷◌, ◌++◌, length, get_or, take, drop, Bool, true, false, not, ◌&&◌, eqb, ltb-true, lt-ltb, refl, ap, sym, subst, ◌∙◌, arith, inl, inr, Option, Some, None, encode_utf8_all}
 use Rattle.std.proofs.lemmas.Bool.{cases_Bool, and_parts, and_from, both_ways, not_from_false, not-true}
-use Rattle.std.proofs.lemmas.List.{length-append, length-drop, take_at, get_or_at}
+use Rattle.std.proofs.lemmas.List.{length-append, length-drop}
 use Rattle.std.proofs.lemmas.List.Prefix.{at_reads, at_from_reads}
-use Rattle.std.proofs.lemmas.Str.{IsUtf8-take, IsCharBoundary-before_ascii, IsCharBoundary-after_ascii, chars-encodes, encodes-chars}
+use Rattle.std.proofs.lemmas.Str.{IsCharBoundary-before_ascii, IsCharBoundary-after_ascii, chars-encodes, encodes-chars}
 use Rattle.std.specs.List.{list_all}
 use Rattle.std.specs.Str.{IsUtf8, IsCharBoundary, chars}
-use Rattle.std.specs.Option.{MatchOption, option_copied}
 use Rattle.memchr.specs.Find.{FindsNeedle, OccursAt}
-use Rattle.std.specs.Str.Pattern.{FindsTextPrefix, StripsPrefix}
-use denote.Ref.{Bor}
 use lib.Utf8.{scalars}
 use Rattle.xt_spec.specs.Char.{is_char}
 use Rattle.xt_spec.specs.Markup.{begins, lacks, AreChars}
@@ -18,34 +15,13 @@ use Rattle.xt_lex.specs.Scan.{after_all, cut_either, cut, are_chars, after_chars
 use Rattle.xt_lex.proofs.Spelling.{encode_small, list_all_behind, strip}
 use Rattle.xt_lex.proofs.StepLemmas.{bind_some}
 use Rattle.xt_lex.proofs.Utf8.{char_scalar}
-
-pub after_all_takes : (needle s r : List ℕ) → after_all needle s ≡ Some r → s ≡ needle ++ r
-after_all_takes [] s r h = let same : s ≡ r = cc in same
-after_all_takes (c ∷ cs) [] r h = absurd (cc)
-after_all_takes (c ∷ cs) (b ∷ bs) r h =
-    elim (cases_Bool (eqb b c)) [
-      | inl e ↦
-          let same : b ≡ c = eqb-true b c e in
-          ap (λ x. x ∷ bs) same ∙ ap (λ t. c ∷ t) (after_all_takes cs bs r (rw e at h))
-      | inr e ↦ let none : None ≡ Some r = rw e at h in absurd (cc)
-    ]
-
-pub after_all_again : (needle r : List ℕ) → after_all needle (needle ++ r) ≡ Some r
-after_all_again [] r = refl
-after_all_again (c ∷ cs) r = let e : eqb c c ≡ true = eq-eqb c c refl in rw e (after_all_again cs r)
-
-pub stripped : (needle s : List ℕ) (r : Option (Bor (List ℕ))) → MatchOption r (FindsTextPrefix needle s None) (λ x. StripsPrefix (FindsTextPrefix needle) s x.now) → MatchOption r ((rest : List ℕ) → s ≢ needle ++ rest) (λ x. s ≡ needle ++ x.now)
-stripped needle s None h = h
-stripped needle s (Some x) h = h.1.1 ∙ ap (λ t. needle ++ t) (sym h.2)
+pub use Rattle.xt_scan.proofs.Steps.{after_all_takes, after_all_again}
+pub use Rattle.xt_scan.proofs.Calls.{stripped, after_all_is}
+pub use Rattle.xt_scan.proofs.Texts.{front_utf8}
 
 none_by : (needle s : List ℕ) → ((rest : List ℕ) → s ≢ needle ++ rest) → (o : Option (List ℕ)) → after_all needle s ≡ o → None ≡ o
 none_by needle s h None e = refl
 none_by needle s h (Some r) e = absurd (h r (after_all_takes needle s r e))
-
--- what the code's call answers
-pub after_all_is : (needle s : List ℕ) (r : Option (Bor (List ℕ))) → MatchOption r ((rest : List ℕ) → s ≢ needle ++ rest) (λ x. s ≡ needle ++ x.now) → option_copied r ≡ after_all needle s
-after_all_is needle s None h = none_by needle s h (after_all needle s) refl
-after_all_is needle s (Some x) h = sym (ap (after_all needle) h ∙ after_all_again needle x.now)
 
 -- the needle stands at the place k, and r follows it
 abbrev StandsAt : List ℕ → List ℕ → ℕ → List ℕ → Type 0
@@ -178,14 +154,6 @@ cut_by needle b bs front r ih (Some t) e p f h =
 pub cut_takes : (needle s front r : List ℕ) → cut needle s ≡ Some (front, r) → IsCut needle s front r
 cut_takes needle [] front r h = absurd (cc)
 cut_takes needle (b ∷ bs) front r h = cut_by needle b bs front r (λ a x e. cut_takes needle bs a x e) (after_all needle (b ∷ bs)) refl (cut needle bs) refl h
-
--- what stands before ASCII in text is text
-pub front_utf8 : (a : List ℕ) (c : ℕ) (x : List ℕ) → c < 128 → IsUtf8 (a ++ (c ∷ x)) → IsUtf8 a
-front_utf8 a c x small u =
-    let s = a ++ (c ∷ x) in
-    let read : get_or s (length a) 0 ≡ c = get_or_at a c x 0 (length a) refl in
-    let cut_ = IsCharBoundary-before_ascii s (length a) (omega (arith, length-append a (c ∷ x))) (omega arith) in
-    subst IsUtf8 (take_at a (c ∷ x) (length a) refl) (IsUtf8-take s (length a) u cut_)
 
 all_scalars : (cs : List ℕ) → list_all is_char cs ≡ true → scalars cs ≡ true
 all_scalars [] h = refl

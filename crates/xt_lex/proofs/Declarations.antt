@@ -1,5 +1,5 @@
 -- The XML declaration and the text declaration: their forms are lawful over any bytes, and say what the standard says.
-use Rattle.std.proofs.Common.{◌≡◌, ◌≢◌, ℕ, List, [], ◌∷◌, ◌++◌, Bool, true, false, ltb, ◌||◌, refl, ap, sym, subst, ◌∙◌, arith, inl, inr, Option, Some, None, IsTrue, codes, eqb-true, append_assoc, append-nil}
+use Rattle.std.proofs.Common.{◌≡◌, ℕ, List, [], ◌∷◌, ◌++◌, Bool, true, false, ltb, refl, ap, sym, subst, ◌∙◌, arith, inl, inr, Option, Some, None, IsTrue, codes, eqb-true, append_assoc}
 use Rattle.std.proofs.lemmas.Bool.{cases_Bool, and_parts, and_from, or_cases, both_ways}
 use Rattle.std.proofs.lemmas.Bool.Decides.{nat_tests}
 use Rattle.std.proofs.lemmas.Slice.Eq.{bytes_eq-Decides}
@@ -10,15 +10,15 @@ use Rattle.xt_spec.specs.Reference.{is_decimal_digit}
 use Rattle.xt_spec.specs.Declaration.{is_version_num, is_latin_letter, is_encoding_char, is_enc_name, is_yes_or_no, IsQuoted, IsWordAndValue, IsPart, Declaration, IsDeclarationOf, IsDeclaration}
 use Rattle.xt_spec.specs.Char.{is_space}
 use Rattle.xt_spec.specs.Tag.{IsEq}
-use Rattle.xt_scan.specs.Look.{Span, from_to, from_on, Look, sees, in_class, anything, nothing, solid_in}
-use Rattle.xt_scan.specs.Form.{Form, MaybeSpells}
+use Rattle.xt_scan.specs.Look.{sees, in_class, anything, solid_in}
+use Rattle.xt_scan.specs.Form.{MaybeSpells}
 use Rattle.xt_scan.specs.Front.{whole}
 use Rattle.xt_scan.proofs.Looks.{sees_apart, sees_anything, sees_nothing}
 use Rattle.xt_scan.proofs.Laws.{Leads, Lawful, lawful_both, lawful_given, lawful_such, lawful_maybe}
 use Rattle.xt_scan.proofs.Leaves.{lawful_word, lawful_space, lawful_blank, lawful_quoted_ascii}
 use Rattle.xt_scan.proofs.Steps.{Stops, stops_at, all_weaker}
-use Rattle.xt_scan.proofs.Texts.{Texts, AnyBytes, byte_texts, utf8_texts}
-use Rattle.xt_scan.proofs.Theorems.{whole_takes, whole_again, one_value, whole_only, whole_one, whole_none}
+use Rattle.xt_scan.proofs.Texts.{Texts, byte_texts, utf8_texts}
+use Rattle.xt_scan.proofs.Theorems.{whole_takes, one_value, whole_none}
 use Rattle.xt_lex.specs.DeclaredValues.{values_of}
 use Rattle.xt_lex.specs.declared.declaration.Declaration.{Declaration as Values}
 use Rattle.xt_lex.specs.NameTest.{is_name_byte, name_class}
@@ -59,7 +59,6 @@ yes_ascii v h = elim (or_cases _ _ h) [
   | inl e ↦ let is : v ≡ codes "yes" = (bytes_eq-Decides v (codes "yes")).0 e in rw is refl
   | inr e ↦ let is : v ≡ codes "no" = (bytes_eq-Decides v (codes "no")).0 e in rw is refl
 ]
-
 
 -- ---- lawful over any kind of text
 
@@ -102,16 +101,18 @@ word_split t space w eq q e = e ∙ (simp append_assoc)
 
 value_is : (w : List ℕ) (test : List ℕ → Bool) (v t : List ℕ) → (word_value w test).Spells v t → IsTrue (test v) × IsWordAndValue w v t
 value_is w test v t (_, y, space, r1, is_space, (_, y1, w1, r2, is_word, (_, y2, eq, q, is_eq, (passes, is_quoted), c, s2), b, s1), a, s0) =
-    let same : y2 ≡ v = c ∙ b ∙ a in
-    (subst (λ v. IsTrue (test v)) same passes, record {
-      space = space;
-      equals = eq;
-      quoted = q;
-      is_space = is_space;
-      is_eq = equals_is _ eq is_eq;
-      is_quoted = subst (λ v. IsQuoted v q) same is_quoted;
-      spelled = word_joined t space r1 w w1 r2 eq q s0 s1 is_word s2;
-    })
+    let same : y2 ≡ v = c ∙ b ∙ a in (
+      subst (λ v. IsTrue (test v)) same passes,
+      record {
+        space = space;
+        equals = eq;
+        quoted = q;
+        is_space = is_space;
+        is_eq = equals_is _ eq is_eq;
+        is_quoted = subst (λ v. IsQuoted v q) same is_quoted;
+        spelled = word_joined t space r1 w w1 r2 eq q s0 s1 is_word s2;
+      },
+    )
 
 is_value : (w : List ℕ) (test : List ℕ → Bool) (v t : List ℕ) → IsTrue (test v) → IsWordAndValue w v t → (word_value w test).Spells v t
 is_value w test v t passes is = (tt, v, is.space, w ++ (is.equals ++ is.quoted), is.is_space, (tt, v, w, is.equals ++ is.quoted, refl, (tt, v, is.equals, is.quoted, is_equals is.equals is.is_eq, (passes, is.is_quoted), refl, refl), refl, refl), refl, word_split t is.space w is.equals is.quoted is.spelled)
@@ -154,9 +155,32 @@ unfolding declared_values version encoding standalone
 is_values d t is =
     let end = is.blank ++ codes "?>" in (
       is.version ++ (is.encoding ++ (is.standalone ++ end)),
-      (((d.version, (d.encoding, d.standalone)), (d.version, (d.encoding, d.standalone), is.version, is.encoding ++ (is.standalone ++ end), is_part (codes "version") is_version_num d.version is.version is.has_version,
-        (d.encoding, d.standalone, is.encoding, is.standalone ++ end, is_part (codes "encoding") is_enc_name d.encoding is.encoding is.has_encoding,
-          (d.standalone, tt, is.standalone, end, is_part (codes "standalone") is_yes_or_no d.standalone is.standalone is.has_standalone, (tt, tt, is.blank, codes "?>", is.is_blank, refl, refl, refl), refl, refl), refl, refl), refl, refl), refl), is.form),
+      (
+        (
+          (d.version, (d.encoding, d.standalone)),
+          (
+            d.version,
+            (d.encoding, d.standalone),
+            is.version,
+            is.encoding ++ (is.standalone ++ end),
+            is_part (codes "version") is_version_num d.version is.version is.has_version,
+            (
+              d.encoding,
+              d.standalone,
+              is.encoding,
+              is.standalone ++ end,
+              is_part (codes "encoding") is_enc_name d.encoding is.encoding is.has_encoding,
+              (d.standalone, tt, is.standalone, end, is_part (codes "standalone") is_yes_or_no d.standalone is.standalone is.has_standalone, (tt, tt, is.blank, codes "?>", is.is_blank, refl, refl, refl), refl, refl),
+              refl,
+              refl,
+            ),
+            refl,
+            refl,
+          ),
+          refl,
+        ),
+        is.form,
+      ),
       parts_split t is.version is.encoding is.standalone is.blank is.spelled,
     )
 

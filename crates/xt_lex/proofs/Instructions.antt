@@ -16,6 +16,7 @@ use Rattle.xt_lex.proofs.Runs.{space_ascii}
 use Rattle.xt_lex.proofs.Spelling.{spelt_ascii, spelt_joined, list_all_weaker}
 use Rattle.xt_lex.proofs.StepLemmas.{bind_some, run_split, run_append, behind_append, name_run_utf8, space_no_name}
 use Rattle.xt_lex.proofs.Utf8.{ascii, blank_utf8}
+use Rattle.xt_scan.proofs.Steps.{space_small}
 
 pub target_takes : (s r : List ℕ) → IsUtf8 s → after_target s ≡ Some r → IsPiTarget (run is_name_byte s) × (s ≡ run is_name_byte s ++ r)
 target_takes s r u h =
@@ -43,9 +44,6 @@ stays_end b (c ∷ front) r = refl
 
 space_no_end : (b : ℕ) → is_space b ≡ true → eqb b 63 ≡ false
 space_no_end b h = grind (arith, nat_tests)
-
-space_small : (b : ℕ) → is_space b ≡ true → ltb b 128 ≡ true
-space_small b h = grind (arith, nat_tests)
 
 space_char : (b : ℕ) → is_space b ≡ true → is_char b ≡ true
 space_char b h = grind (arith, nat_tests)

@@ -15,6 +15,7 @@ use Rattle.xt_lex.proofs.NameLemmas.{ncname_from_test}
 use Rattle.xt_lex.proofs.Sound.{plain_ncname, plain_ascii}
 use Rattle.xt_lex.proofs.Spelling.{encode_small, list_all_weaker}
 use Rattle.xt_lex.proofs.Utf8.{ascii}
+use Rattle.xt_scan.proofs.Steps.{space_small}
 
 pub plain_is_ncname : (name : List ℕ) → is_plain_name name ≡ true → IsNCName name
 plain_is_ncname name h = ncname_from_test name (ascii name (plain_ascii name h)) (plain_ncname name h)
@@ -34,9 +35,6 @@ stands_spells t c (inr known) = inr (predefined_entity t c known)
 
 space_char : (b : ℕ) → is_space b ≡ true → is_char b ≡ true
 space_char b h = grind (arith, nat_tests)
-
-space_small : (b : ℕ) → is_space b ≡ true → ltb b 128 ≡ true
-space_small b h = grind (arith, nat_tests)
 
 space_is_not : (b c : ℕ) → is_space b ≡ true → is_space c ≡ false → b ≡ c → ⊥
 space_is_not b c h isnt e = both_ways (is_space c) isnt (subst (λ b. is_space b ≡ true) e h)

@@ -4,10 +4,11 @@ use Rattle.std.proofs.lemmas.Bool.{cases_Bool, and_parts, and_from, both_ways, n
 use Rattle.std.proofs.lemmas.Bool.Decides.{nat_tests}
 use Rattle.std.proofs.lemmas.List.Folds.{list_all-append}
 use Rattle.std.proofs.lemmas.List.Recursion.{and_from_places}
-use Rattle.std.proofs.lemmas.Str.{encode_ascii, NoCharPasses-byte, cons_from_encodes}
+use Rattle.std.proofs.lemmas.Str.{encode_ascii, NoCharPasses-byte}
 use Rattle.std.specs.List.{list_all}
 use Rattle.std.specs.Str.{NonePass}
 use Rattle.xt_spec.specs.Name.{IsSpeltBy}
+pub use Rattle.xt_scan.proofs.Steps.{strip}
 
 pub list_all_weaker : (p q : ℕ → Bool) → ((b : ℕ) → p b ≡ true → q b ≡ true) → (xs : List ℕ) → list_all p xs ≡ true → list_all q xs ≡ true
 list_all_weaker p q weaker [] h = refl
@@ -41,14 +42,6 @@ spelt_ascii p xs small h = (xs, encode_small xs small, h)
 
 pub spelt_char : (p : ℕ → Bool) (c : ℕ) → p c ≡ true → IsSpeltBy (λ cs. list_all p cs) (encode_utf8 c)
 spelt_char p c h = (c ∷ [], append-nil (encode_utf8 c), and_from _ _ h refl)
-
--- a front of characters of one list of characters
-pub strip : (cs front : List ℕ) (x : List ℕ) → encode_utf8_all cs ≡ encode_utf8_all front ++ x → (es : List ℕ) × (cs ≡ front ++ es) × (encode_utf8_all es ≡ x)
-strip cs [] x e = (cs, refl, e)
-strip cs (c ∷ front) x e =
-    let first = cons_from_encodes cs (encode_utf8_all front ++ x) c (e ∙ append_assoc (encode_utf8 c) (encode_utf8_all front) x) in
-    let rest = strip first.0 front x first.2 in
-    (rest.0, first.1 ∙ ap (λ t. c ∷ t) rest.1, rest.2)
 
 none_is : (p : ℕ) (cs : List ℕ) → list_all (λ c. not (eqb c p)) cs ≡ true → NonePass (λ d. eqb d p) cs
 none_is p [] h = tt

@@ -1,36 +1,19 @@
 -- The steps that tags and attributes are made of.
-use Rattle.std.proofs.Common.{◌≡◌, ℕ, ◌<◌, List, [], ◌∷◌, ◌++◌, Bool, true, false, cond, eqb, refl, ap, subst, ◌∙◌, arith, inl, inr, Option, Some, None, eqb-true, append-nil}
+use Rattle.std.proofs.Common.{◌≡◌, ℕ, List, [], ◌∷◌, ◌++◌, Bool, true, false, eqb, refl, ap, subst, ◌∙◌, arith, inl, inr, Some, None, eqb-true, append-nil}
 use Rattle.std.proofs.lemmas.Bool.{cases_Bool, and_parts}
 use Rattle.std.proofs.lemmas.Bool.Decides.{nat_tests}
 use Rattle.std.specs.List.{list_all, prefix_len}
 use Rattle.std.specs.Str.{IsUtf8}
-use Rattle.std.proofs.lemmas.Str.{IsUtf8-take, IsUtf8-drop, IsCharBoundary-after_ascii}
+use Rattle.std.proofs.lemmas.Str.{IsUtf8-take}
 use Rattle.xt_spec.specs.Char.{is_space}
 use Rattle.xt_spec.specs.Name.{are_ncname_chars, IsNCName, IsQName}
 use Rattle.xt_lex.specs.NameTest.{is_name_byte, qname}
 use Rattle.xt_spec.specs.Tag.{IsBlank}
 use Rattle.std.specs.Str.{chars}
-use Rattle.xt_lex.specs.Scan.{◌>>=◌, run, behind, after, after_qname, after_ncname}
+use Rattle.xt_lex.specs.Scan.{run, behind, after, after_qname, after_ncname}
 use Rattle.xt_lex.proofs.Runs.{run_is, boundary_at_stop, stop_ascii}
 use Rattle.xt_lex.proofs.NameLemmas.{qname_from_test, test_from_qname, qname_bytes, ncname_from_test, test_from_ncname, ncname_passes}
-
-pub bind_some : {A B : Type 0} (o : Option A) (f : A → Option B) (y : B) → (o >>= f) ≡ Some y → (x : A) × (o ≡ Some x) × (f x ≡ Some y)
-bind_some None f y h = absurd (cc)
-bind_some (Some x) f y h = (x, refl, h)
-
-pub run_split : (p : ℕ → Bool) (s : List ℕ) → s ≡ run p s ++ behind p s
-run_split p [] = refl
-run_split p (x ∷ xs) =
-    elim (p x) as (λ b. x ∷ xs ≡ cond b (x ∷ run p xs) [] ++ cond b (behind p xs) (x ∷ xs))
-    [ true ↦ ap (λ t. x ∷ t) (run_split p xs) | false ↦ refl ]
-
-pub run_passes : (p : ℕ → Bool) (s : List ℕ) → list_all p (run p s) ≡ true
-run_passes p [] = refl
-run_passes p (x ∷ xs) =
-    elim (cases_Bool (p x)) [
-      | inl e ↦ rw (e, e) (run_passes p xs)
-      | inr e ↦ rw e refl
-    ]
+pub use Rattle.xt_scan.proofs.Steps.{bind_some, run_split, run_passes, utf8_behind}
 
 pub run_append : (p : ℕ → Bool) (a r : List ℕ) → list_all p a ≡ true → run p (a ++ r) ≡ a ++ run p r
 run_append p [] r h = refl
@@ -107,6 +90,3 @@ pub tag_again : (name blank close : List ℕ) → IsQName name → IsBlank blank
 tag_again name blank close q b none all solid =
     let stops = stops_name blank close b none all in
     (after_qname_again name (blank ++ close) q stops.0 stops.1, behind_append is_space blank close b ∙ solid)
-
-pub utf8_behind : (b : ℕ) (s : List ℕ) → b < 128 → IsUtf8 (b ∷ s) → IsUtf8 s
-utf8_behind b s small u = IsUtf8-drop (b ∷ s) 1 u (IsCharBoundary-after_ascii (b ∷ s) 0 u (omega arith) small)

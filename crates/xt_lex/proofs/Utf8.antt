@@ -1,10 +1,9 @@
 -- Names, white space and ASCII are text.
-use Rattle.std.proofs.Common.{◌≡◌, ℕ, List, [], ◌∷◌, true, refl, arith, inl, inr, codes, ltb, ltb-true}
+use Rattle.std.proofs.Common.{◌≡◌, ℕ, List, [], ◌∷◌, true, refl, arith, inl, inr, codes}
 use Rattle.std.proofs.lemmas.Bool.{and_parts}
 use Rattle.std.proofs.lemmas.Bool.Decides.{nat_tests}
-use Rattle.std.proofs.lemmas.Str.{IsUtf8-append, IsUtf8-from_ascii}
+use Rattle.std.proofs.lemmas.Str.{IsUtf8-append}
 use Rattle.std.proofs.lemmas.Str.Ascii.{IsAscii-cons, IsAscii-nil}
-use Rattle.std.specs.List.{list_all}
 use Rattle.std.specs.Str.{IsUtf8, IsAscii}
 use lib.Utf8.{scalar}
 use Rattle.xt_spec.specs.Char.{is_char}
@@ -12,6 +11,7 @@ use Rattle.xt_spec.specs.Name.{IsNCName, IsQName}
 use Rattle.xt_spec.specs.Tag.{IsBlank}
 use Rattle.xt_lex.proofs.Runs.{space_ascii}
 use Rattle.xt_lex.proofs.NameLemmas.{all_scalars, name_all}
+pub use Rattle.xt_scan.proofs.Steps.{ascii_from, ascii, blank_utf8}
 
 pub char_scalar : (c : ℕ) → is_char c ≡ true → scalar c ≡ true
 char_scalar c h = grind (arith, nat_tests)
@@ -25,19 +25,7 @@ blank_ascii (b ∷ bs) h =
 pub ncname_utf8 : (text : List ℕ) → IsNCName text → IsUtf8 text
 ncname_utf8 text (cs, e, h) = (cs, (all_scalars cs (name_all cs (and_parts _ _ h).0), e))
 
-pub ascii_from : (text : List ℕ) → list_all (λ b. ltb b 128) text ≡ true → IsAscii text
-ascii_from [] h = IsAscii-nil
-ascii_from (b ∷ bs) h =
-    let both = and_parts _ _ h in
-    IsAscii-cons b bs (ltb-true b 128 both.0) (ascii_from bs both.1)
-
-pub ascii : (text : List ℕ) → list_all (λ b. ltb b 128) text ≡ true → IsUtf8 text
-ascii text h = IsUtf8-from_ascii text (ascii_from text h)
-
 pub qname_utf8 : (text : List ℕ) → IsQName text → IsUtf8 text
 qname_utf8 text (inl h) = ncname_utf8 text h
 qname_utf8 text (inr (prefix, local, p, l, e)) =
     rw e (IsUtf8-append prefix (58 ∷ local) (ncname_utf8 prefix p) (IsUtf8-append (58 ∷ []) local (ascii (codes ":") refl) (ncname_utf8 local l)))
-
-pub blank_utf8 : (text : List ℕ) → IsBlank text → IsUtf8 text
-blank_utf8 text h = IsUtf8-from_ascii text (blank_ascii text h)

@@ -17,6 +17,7 @@ use Rattle.xt_lex.proofs.Runs.{run_is, boundary_at_stop}
 use Rattle.xt_lex.proofs.Spelling.{list_all_weaker, list_all_joined, list_all_behind, spelt_joined, spelt_char, strip, bytes_lack}
 use Rattle.xt_lex.proofs.StepLemmas.{run_split, run_passes, run_append, behind_append, after_takes, utf8_behind}
 use Rattle.xt_lex.proofs.Utf8.{char_scalar, ascii}
+use Rattle.xt_scan.proofs.Leaves.{quote_small}
 
 found_some : {A : Type 0} (o : Option A) → is_found o ≡ true → (x : A) × (o ≡ Some x)
 found_some None h = absurd (cc)
@@ -187,10 +188,6 @@ value_spelt q (p ∷ ps) (inr ref, more) =
 inner_no_quote : (q b : ℕ) → IsQuote q → is_inner b ≡ true → not (eqb b q) ≡ true
 inner_no_quote q b (inl e) h = rw e (grind (arith, nat_tests))
 inner_no_quote q b (inr e) h = rw e (grind (arith, nat_tests))
-
-quote_small : (q : ℕ) → IsQuote q → q < 128
-quote_small q (inl e) = omega arith
-quote_small q (inr e) = omega arith
 
 amp_no_quote : (q : ℕ) → IsQuote q → not (eqb 38 q) ≡ true
 amp_no_quote q (inl e) = rw e refl

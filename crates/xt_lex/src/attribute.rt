@@ -9,10 +9,11 @@ ghost use Rattle.xt_lex.specs.Scan.{behind, run, is_value, is_attr_char, referen
 ghost use Rattle.xt_lex.specs.Place.{IsAttributeAt, NoAttributeAt};
 
 use crate::chars::{is_char, is_sound_byte};
-use crate::front::{after, after_blank, after_qname, after_space};
+use crate::front::{after, after_qname, after_space};
 use crate::reference::reference;
 use crate::token::Span;
 use memchr::memchr;
+use xt_scan::after_blank;
 
 /// Where an attribute of a tag stands.
 ///

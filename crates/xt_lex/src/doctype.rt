@@ -9,9 +9,9 @@ ghost use Rattle.xt_lex.specs.Kinds.{kind_of};
 ghost use Rattle.xt_lex.specs.Scan.{behind, many, after_system_literal, after_pubid_literal, after_system, after_public, after_external_id, spaced_external_id, after_external, after_first, after_less, after_marked, is_plain_in_subset, after_subset_part, after_subset, after_brackets, doctype_step};
 
 use crate::data::are_chars;
-use crate::front::{after, after_all, after_blank, after_qname, after_space, cut};
+use crate::front::{after, after_all, after_qname, after_space, cut};
 use crate::token::Kind;
-use xt_scan::quoted;
+use xt_scan::{after_blank, quoted};
 
 fn is_pubid_char(b: u8) -> bool
     ensures { result ≡ spec.is_pubid_char b }

@@ -11,6 +11,7 @@ ghost use Rattle.xt_lex.specs.NameTest.{is_name_byte};
 use crate::chars::{is_name_byte, is_space};
 use crate::names::{is_ncname, is_qname};
 use memchr::memmem;
+use xt_scan::after_blank;
 
 /// What follows the character, an ASCII one.
 pub(crate) fn after(c: char, text: &str) -> Option<&str>
@@ -38,23 +39,10 @@ pub(crate) fn cut<'a>(needle: &str, text: &'a str) -> Option<(&'a str, &'a str)>
     }
 }
 
-fn blank_len(bytes: &[u8]) -> usize
-    ensures { result ≡ prefix_len is_space bytes.now }
-{
-    bytes.iter().take_while(|b| is_space(**b)).count()
-}
-
 fn name_len(bytes: &[u8]) -> usize
     ensures { result ≡ prefix_len is_name_byte bytes.now }
 {
     bytes.iter().take_while(|b| is_name_byte(**b)).count()
-}
-
-/// What follows optional white space.
-pub(crate) fn after_blank(text: &str) -> &str
-    ensures { result.now ≡ behind is_space text.now }
-{
-    &text[blank_len(text.as_bytes())..]
 }
 
 /// What follows white space, of which there is some.

@@ -6,8 +6,9 @@ ghost use Rattle.xt_lex.specs.Scan.{attribute, many, open_end, open_tag, closing
 ghost use Rattle.xt_lex.specs.Kinds.{kind_of};
 
 use crate::attribute::after_attribute;
-use crate::front::{after, after_blank, after_qname};
+use crate::front::{after, after_qname};
 use crate::token::Kind;
+use xt_scan::after_blank;
 
 /// What follows all attributes.
 fn after_attributes(text: &str) -> &str

@@ -228,7 +228,7 @@ quote_tests : (q : ℕ) → IsQuote q → (eqb q 34 || eqb q 39) ≡ true
 quote_tests q (inl e) = rw e refl
 quote_tests q (inr e) = rw e refl
 
-quote_small : (q : ℕ) → IsQuote q → q < 128
+pub quote_small : (q : ℕ) → IsQuote q → q < 128
 quote_small q (inl e) = omega arith
 quote_small q (inr e) = omega arith
 

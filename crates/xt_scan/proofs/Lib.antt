@@ -5,3 +5,4 @@ pub mod Laws
 pub mod Leaves
 pub mod Theorems
 pub mod Calls
+mod Examples

@@ -19,7 +19,7 @@ pub record Texts (T : List ℕ → Type 0) : Type 0 where
   -- what stands before ASCII
   pub front : (a : List ℕ) (c : ℕ) (x : List ℕ) → c < 128 → T (a ++ (c ∷ x)) → T a
 
-front_utf8 : (a : List ℕ) (c : ℕ) (x : List ℕ) → c < 128 → IsUtf8 (a ++ (c ∷ x)) → IsUtf8 a
+pub front_utf8 : (a : List ℕ) (c : ℕ) (x : List ℕ) → c < 128 → IsUtf8 (a ++ (c ∷ x)) → IsUtf8 a
 front_utf8 a c x small u =
     let s = a ++ (c ∷ x) in
     let read = get_or_at a c x 0 _ refl in
