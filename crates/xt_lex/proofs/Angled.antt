@@ -17,7 +17,7 @@ use Rattle.xt_lex.proofs.Doctypes.{doctype_takes, doctype_split, doctype_again}
 use Rattle.xt_lex.proofs.NameLemmas.{ncname_passes}
 use Rattle.xt_lex.proofs.Instructions.{target_takes, target_again, data_takes, data_again, data_no_name}
 use Rattle.xt_lex.proofs.References.{pair_parts}
-use Rattle.xt_lex.proofs.StepLemmas.{bind_some, run_split, run_append, after_takes}
+use Rattle.xt_lex.proofs.StepLemmas.{bind_some, run_split, run_append, after_takes, name_run_utf8}
 use Rattle.xt_lex.proofs.Tags.{IsMarkup, markup_takes, markup_again}
 use Rattle.xt_lex.proofs.Utf8.{ascii, ncname_utf8}
 
@@ -144,7 +144,8 @@ instructed_takes s r k u h =
           let step : (declared_values.read (behind is_name_byte s) >>= λ x. Some (declaration, x.1)) ≡ Some (k, r) = rw e at h in
           let found = bind_some (declared_values.read (behind is_name_byte s)) _ _ step in
           let same = pair_parts declaration k found.0.1 r found.2 in
-          let is = declaration_takes (behind is_name_byte s) found.0 found.1 in
+          let rest : IsUtf8 (behind is_name_byte s) = utf8_rest s front (behind is_name_byte s) u (name_run_utf8 s u) (run_split is_name_byte s) in
+          let is = declaration_takes (behind is_name_byte s) found.0 rest found.1 in
           let xml : front ≡ codes "xml" = (bytes_eq-Decides front (codes "xml")).0 e in
           let spelled = spelled_as k declaration is.0 (sym same.0) ((found.0.0, is.1), tt) in
           (is.0, xml_joined s front (behind is_name_byte s) (run_split is_name_byte s) xml ∙ is.2 ∙ ap (λ r. is.0 ++ r) same.1, spelled.0, spelled.1)

@@ -1,4 +1,4 @@
--- The XML declaration and the text declaration: their forms are lawful over any bytes, and say what the standard says.
+-- The XML declaration and the text declaration: their forms are lawful, and say what the standard says.
 use Rattle.std.proofs.Common.{◌≡◌, ℕ, List, [], ◌∷◌, ◌++◌, Bool, true, false, ltb, refl, ap, sym, subst, ◌∙◌, arith, inl, inr, Option, Some, None, IsTrue, codes, eqb-true, append_assoc}
 use Rattle.std.proofs.lemmas.Bool.{cases_Bool, and_parts, and_from, or_cases, both_ways}
 use Rattle.std.proofs.lemmas.Bool.Decides.{nat_tests}
@@ -17,7 +17,6 @@ use Rattle.xt_scan.proofs.Looks.{sees_apart, sees_anything, sees_nothing}
 use Rattle.xt_scan.proofs.Laws.{Leads, Lawful, lawful_both, lawful_given, lawful_such, lawful_maybe}
 use Rattle.xt_scan.proofs.Leaves.{lawful_word, lawful_space, lawful_blank, lawful_quoted_ascii}
 use Rattle.xt_scan.proofs.Steps.{Stops, stops_at, all_weaker}
-use Rattle.xt_scan.proofs.Texts.{Texts, byte_texts, utf8_texts}
 use Rattle.xt_scan.proofs.Theorems.{whole_takes, one_value, whole_none}
 use Rattle.xt_lex.specs.DeclaredValues.{values_of}
 use Rattle.xt_lex.specs.declared.declaration.Declaration.{Declaration as Values}
@@ -60,27 +59,27 @@ yes_ascii v h = elim (or_cases _ _ h) [
   | inr e ↦ let is : v ≡ codes "no" = (bytes_eq-Decides v (codes "no")).0 e in rw is refl
 ]
 
--- ---- lawful over any kind of text
+-- ---- lawful
 
-lawful_version : {T : List ℕ → Type 0} → Texts T → Lawful T version
+lawful_version : Lawful version
 unfolding version
-lawful_version texts = search (texts, lawful_both, lawful_word, lawful_space, lawful_blank, lawful_quoted_ascii, version_ascii) depth 20
+lawful_version = search (lawful_both, lawful_word, lawful_space, lawful_blank, lawful_quoted_ascii, version_ascii) depth 20
 
-lawful_encoding : {T : List ℕ → Type 0} → Texts T → Lawful T encoding
+lawful_encoding : Lawful encoding
 unfolding encoding
-lawful_encoding texts = search (texts, lawful_both, lawful_word, lawful_space, lawful_blank, lawful_quoted_ascii, enc_ascii) depth 20
+lawful_encoding = search (lawful_both, lawful_word, lawful_space, lawful_blank, lawful_quoted_ascii, enc_ascii) depth 20
 
-lawful_standalone : {T : List ℕ → Type 0} → Texts T → Lawful T standalone
+lawful_standalone : Lawful standalone
 unfolding standalone
-lawful_standalone texts = search (texts, lawful_both, lawful_word, lawful_space, lawful_blank, lawful_quoted_ascii, yes_ascii) depth 20
+lawful_standalone = search (lawful_both, lawful_word, lawful_space, lawful_blank, lawful_quoted_ascii, yes_ascii) depth 20
 
-lawful_values : {T : List ℕ → Type 0} → Texts T → Lawful T declared_values
+lawful_values : Lawful declared_values
 unfolding declared_values version encoding standalone
-lawful_values texts = search (texts, lawful_such, lawful_given, lawful_both, lawful_maybe, lawful_word, lawful_blank, lawful_version, lawful_encoding, lawful_standalone) depth 20
+lawful_values = search (lawful_such, lawful_given, lawful_both, lawful_maybe, lawful_word, lawful_blank, lawful_version, lawful_encoding, lawful_standalone) depth 20
 
-lawful_xml_decl : {T : List ℕ → Type 0} → Texts T → Lawful T xml_decl
+lawful_xml_decl : Lawful xml_decl
 unfolding xml_decl declared_values version encoding standalone
-lawful_xml_decl texts = search (texts, lawful_both, lawful_word, lawful_values) depth 20
+lawful_xml_decl = search (lawful_both, lawful_word, lawful_values) depth 20
 
 -- ---- they say what the standard says
 
@@ -193,15 +192,15 @@ is_declaration d t is = let values = is_values d t is in (tt, d, codes "<?xml", 
 byte_in_class : (b : ℕ) → is_name_byte b ≡ true → in_class name_class b ≡ true
 byte_in_class b h = grind (arith, nat_tests)
 
-pub declaration_takes : (s : List ℕ) (x : Declaration × List ℕ) → declared_values.read s ≡ Some x → (t : List ℕ) × IsDeclarationOf x.0 t × (codes "<?xml" ++ s ≡ t ++ x.1)
+pub declaration_takes : (s : List ℕ) (x : Declaration × List ℕ) → IsUtf8 s → declared_values.read s ≡ Some x → (t : List ℕ) × IsDeclarationOf x.0 t × (codes "<?xml" ++ s ≡ t ++ x.1)
 unfolding xml_decl
-declaration_takes s x h =
-    let one = (lawful_values byte_texts).takes s x.0 x.1 tt h in
+declaration_takes s x u h =
+    let one = lawful_values.takes s x.0 x.1 u h in
     (codes "<?xml" ++ one.0, declaration_is x.0 (codes "<?xml" ++ one.0) (tt, x.0, codes "<?xml", one.0, refl, one.1, refl, refl), ap (λ s. codes "<?xml" ++ s) one.2)
 
 pub values_again : (d : Declaration) (v r : List ℕ) → declared_values.Spells d v → declared_values.read (v ++ r) ≡ Some (d, r)
 unfolding declared_values version encoding standalone
-values_again d v r spells = (lawful_values byte_texts).again d v r tt spells (sees_nothing r)
+values_again d v r spells = lawful_values.again d v r spells (sees_nothing r)
 
 no_name : (b : ℕ) (bs : List ℕ) → sees (solid_in name_class) (b ∷ bs) ≡ false → is_name_byte b ≡ false
 no_name b bs out =
@@ -225,28 +224,28 @@ stops d v r spells (inr p) =
 -- the target of a declaration is `xml`
 pub values_target : (d : Declaration) (v r : List ℕ) → declared_values.Spells d v → (run is_name_byte (codes "xml" ++ (v ++ r)) ≡ codes "xml") × (behind is_name_byte (codes "xml" ++ (v ++ r)) ≡ v ++ r)
 values_target d v r spells =
-    let none = stops d v r spells ((lawful_values byte_texts).leads d v spells) in
+    let none = stops d v r spells (lawful_values.leads d v spells) in
     (ap (λ t. codes "xml" ++ t) none.0, none.1)
 
 pub declaration_utf8 : (d : Declaration) (t : List ℕ) → IsDeclarationOf d t → IsUtf8 t
-declaration_utf8 d t is = (lawful_xml_decl utf8_texts).is_text d t (is_declaration d t is)
+declaration_utf8 d t is = lawful_xml_decl.utf8 d t (is_declaration d t is)
 
 ends : sees xml_decl.bars [] ≡ false
 unfolding xml_decl declared_values version encoding standalone
 ends = refl
 
 pub declaration_unique : (text : List ℕ) (d e : Declaration) → IsDeclarationOf d text → IsDeclarationOf e text → d ≡ e
-declaration_unique text d e a b = one_value byte_texts xml_decl (lawful_xml_decl byte_texts) ends text d e (is_declaration d text a) (is_declaration e text b)
+declaration_unique text d e a b = one_value xml_decl lawful_xml_decl ends text d e (is_declaration d text a) (is_declaration e text b)
 
 -- the clauses of the call
-pub read_only : (text : List ℕ) (r : Option Values) → option_map values_of r ≡ whole (xml_decl.read text) → IfSome r (λ d. IsDeclarationOf (values_of d) text)
-read_only text None h = tt
-read_only text (Some d) h = declaration_is (values_of d) text (whole_takes byte_texts xml_decl (lawful_xml_decl byte_texts) text (values_of d) tt (sym h))
+pub read_only : (text : List ℕ) (r : Option Values) → IsUtf8 text → option_map values_of r ≡ whole (xml_decl.read text) → IfSome r (λ d. IsDeclarationOf (values_of d) text)
+read_only text None u h = tt
+read_only text (Some d) u h = declaration_is (values_of d) text (whole_takes xml_decl lawful_xml_decl text (values_of d) u (sym h))
 
-pub read_one : (text : List ℕ) (r : Option Values) → option_map values_of r ≡ whole (xml_decl.read text) → IfSome r (λ d. (e : Declaration) → IsDeclarationOf e text → e ≡ values_of d)
-read_one text None h = tt
-read_one text (Some d) h = λ e is. declaration_unique text e (values_of d) is (read_only text (Some d) h)
+pub read_one : (text : List ℕ) (r : Option Values) → IsUtf8 text → option_map values_of r ≡ whole (xml_decl.read text) → IfSome r (λ d. (e : Declaration) → IsDeclarationOf e text → e ≡ values_of d)
+read_one text None u h = tt
+read_one text (Some d) u h = λ e is. declaration_unique text e (values_of d) is (read_only text (Some d) u h)
 
 pub read_none : (text : List ℕ) (r : Option Values) → option_map values_of r ≡ whole (xml_decl.read text) → IfNone r (¬ IsDeclaration text)
-read_none text None h = λ x. whole_none byte_texts xml_decl values_of (lawful_xml_decl byte_texts) ends text None h x.0 (is_declaration x.0 text x.1)
+read_none text None h = λ x. whole_none xml_decl values_of lawful_xml_decl ends text None h x.0 (is_declaration x.0 text x.1)
 read_none text (Some d) h = tt

@@ -5,12 +5,11 @@ use Rattle.std.specs.Str.{IsUtf8}
 use Rattle.xt_spec.specs.Char.{is_space}
 use Rattle.xt_spec.specs.Declaration.{IsQuoted}
 use Rattle.xt_scan.proofs.Leaves.{any_quoted_takes, any_quoted_again}
-use Rattle.xt_scan.proofs.Texts.{byte_texts}
 use Rattle.xt_lex.specs.Scan.{behind, quoted}
 use Rattle.xt_lex.proofs.Utf8.{ascii}
 
 pub quoted_takes : (s value r : List ℕ) → quoted s ≡ Some (value, r) → (t : List ℕ) × IsQuoted value t × (s ≡ t ++ r)
-quoted_takes s value r h = let found = any_quoted_takes byte_texts s value r tt h in (found.0, found.1, found.2)
+quoted_takes s value r h = let found = any_quoted_takes s value r h in (found.0, found.1, found.2)
 
 pub quoted_again : (t value r : List ℕ) → IsQuoted value t → quoted (t ++ r) ≡ Some (value, r)
 quoted_again t value r is = any_quoted_again value t r is

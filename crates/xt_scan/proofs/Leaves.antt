@@ -2,6 +2,8 @@
 use Rattle.std.proofs.Common.{◌≡◌, ◌≢◌, ℕ, ◌<◌, List, [], ◌∷◌, ◌++◌, Bool, true, false, not, ◌||◌, ◌&&◌, eqb, ltb, refl, ap, sym, subst, IsTrue, ◌∙◌, arith, inl, inr, Option, Some, None, eqb-true, eq-eqb, append_assoc}
 use Rattle.std.proofs.lemmas.Bool.{cases_Bool, and_parts, and_from, both_ways, or_cases, not-true}
 use Rattle.std.proofs.lemmas.Bool.Decides.{nat_tests}
+use Rattle.std.proofs.lemmas.List.{length-append, get_or_at, take_at}
+use Rattle.std.proofs.lemmas.Str.{IsUtf8-append, IsUtf8-take, IsCharBoundary-before_ascii}
 use Rattle.std.proofs.lemmas.Slice.Eq.{bytes_eq-Decides}
 use Rattle.std.specs.List.{list_all}
 use Rattle.std.specs.Str.{IsUtf8}
@@ -12,9 +14,8 @@ use Rattle.xt_scan.specs.Look.{Span, from_to, in_class, Look, sees_behind, sees,
 use Rattle.xt_scan.specs.Step.{run, behind, after_all}
 use Rattle.xt_scan.specs.Form.{word, blank, read_space, space, piece, is_letter, letters, is_among, keyword, read_to_quote, read_quoted, tested, quoted, quoted_text, quoted_ascii, first_of_word}
 use Rattle.xt_scan.proofs.Looks.{spaced_sees, not_spaced}
-use Rattle.xt_scan.proofs.Steps.{bind_some, run_split, run_passes, Stops, run_again, stops_at, after_all_takes, after_all_again, all_weaker}
-use Rattle.xt_scan.proofs.Texts.{Texts, utf8_texts}
-use Rattle.xt_scan.proofs.Laws.{Leads, Lawful, tested_some}
+use Rattle.xt_scan.proofs.Steps.{bind_some, run_split, run_passes, Stops, run_again, stops_at, after_all_takes, after_all_again, ascii, ascii_run, all_weaker, blank_utf8, utf8_behind}
+use Rattle.xt_scan.proofs.Laws.{Leads, Begins, Lawful, tested_some}
 
 -- ---- these bytes: some, the first no white space, all ASCII
 abbrev pub is_word : List ℕ → Bool
@@ -30,19 +31,28 @@ word_leads (c ∷ cs) t h e =
     let first : is_space c ≡ false = not-true _ (and_parts _ _ h).0 in
     inr (λ n. absurd (cc), λ l r i. rw e (rw first (byte_in c)))
 
-word_text : {T : List ℕ → Type 0} → Texts T → (w : List ℕ) → is_word w ≡ true → T w
-word_text texts [] h = absurd (cc)
-word_text texts (c ∷ cs) h = texts.ascii (c ∷ cs) (and_parts _ _ h).1
+word_seen : (w r : List ℕ) → is_word w ≡ true → sees (solid_in (first_of_word w)) (w ++ r) ≡ true
+word_seen [] r h = absurd (cc)
+word_seen (c ∷ cs) r h =
+    let first : is_space c ≡ false = not-true _ (and_parts _ _ h).0 in
+    rw first (byte_in c)
 
-pub lawful_word : {T : List ℕ → Type 0} → Texts T → (w : List ℕ) → is_word w ≡ true → Lawful T (word w)
-lawful_word {T} texts w h = record {
+word_utf8 : (w : List ℕ) → is_word w ≡ true → IsUtf8 w
+word_utf8 [] h = absurd (cc)
+word_utf8 (c ∷ cs) h = ascii (c ∷ cs) (and_parts _ _ h).1
+
+pub lawful_word : (w : List ℕ) → is_word w ≡ true → Lawful (word w)
+lawful_word w h = record {
   takes = λ s v r u e.
       let x = bind_some (after_all w s) _ _ e in
       let same : ◌≡◌ {A = Unit {0} × List ℕ} (tt, x.0) (v, r) = cc (x.2) in
       (w, refl, after_all_takes w s x.0 x.1 ∙ ap (λ r. w ++ r) (ap (λ p. p.1) same));
-  again = λ v t r u s out. let found = after_all_again w r in rw s (rw found refl);
+  again = λ v t r s out. let found = after_all_again w r in rw s (rw found refl);
+  begins = λ s v r e.
+      let x = bind_some (after_all w s) _ _ e in
+      inr (λ l i. subst (λ s. sees (solid_in (first_of_word w)) s ≡ true) (sym (after_all_takes w s x.0 x.1)) (word_seen w x.0 h));
   leads = λ v t s. word_leads w t h s;
-  is_text = λ v t s. subst T (sym s) (word_text texts w h);
+  utf8 = λ v t s. subst IsUtf8 (sym s) (word_utf8 w h);
 }
 
 -- ---- white space
@@ -65,23 +75,32 @@ blank_or : (t : List ℕ) → IsBlank t → Leads true spaced_by t
 blank_or [] h = inl (refl, refl)
 blank_or (b ∷ bs) h = inr (λ n. absurd (cc), some_blank (b ∷ bs) h (λ n. absurd (cc)))
 
+-- what was read as white space
+blank_begins : (s : List ℕ) → Begins true spaced_by s (behind is_space s)
+blank_begins [] = inl (refl, refl)
+blank_begins (b ∷ bs) =
+    elim (cases_Bool (is_space b)) [
+      | inl e ↦
+          let split : b ∷ bs ≡ (b ∷ run is_space bs) ++ behind is_space bs = ap (λ t. b ∷ t) (run_split is_space bs) in
+          let rest : behind is_space (b ∷ bs) ≡ behind is_space bs = rw e refl in
+          inr (λ l i. subst (λ s. sees (spaced_by l) s ≡ true) (sym split) (some_blank (b ∷ run is_space bs) (and_from _ _ e (run_passes is_space bs)) (λ n. absurd (cc)) l (behind is_space bs) (subst (λ r. sees l r ≡ true) rest i)))
+      | inr e ↦ let rest : behind is_space (b ∷ bs) ≡ b ∷ bs = rw e refl in inl (sym rest, refl)
+    ]
+
 no_space : (r : List ℕ) → sees spaced_any r ≡ false → Stops is_space r
 no_space r out = stops_at is_space r (not_spaced r out)
 
-space_small : (b : ℕ) → is_space b ≡ true → ltb b 128 ≡ true
-space_small b h = grind (arith, nat_tests)
-
-blank_text : {T : List ℕ → Type 0} → Texts T → (t : List ℕ) → IsBlank t → T t
-blank_text texts t h = texts.ascii t (all_weaker is_space (λ b. ltb b 128) space_small t h)
-
-pub lawful_blank : {T : List ℕ → Type 0} → Texts T → Lawful T blank
-lawful_blank texts = record {
+pub lawful_blank : Lawful blank
+lawful_blank = record {
   takes = λ s v r u e.
       let same : ◌≡◌ {A = Unit {0} × List ℕ} (tt, behind is_space s) (v, r) = cc in
       (run is_space s, run_passes is_space s, run_split is_space s ∙ ap (λ r. run is_space s ++ r) (ap (λ p. p.1) same));
-  again = λ v t r u s out. let again = (run_again is_space t r s (no_space r out)).1 in rw again refl;
+  again = λ v t r s out. let again = (run_again is_space t r s (no_space r out)).1 in rw again refl;
+  begins = λ s v r e.
+      let same : ◌≡◌ {A = Unit {0} × List ℕ} (tt, behind is_space s) (v, r) = cc in
+      subst (Begins true spaced_by s) (ap (λ p. p.1) same) (blank_begins s);
   leads = λ v t s. blank_or t s;
-  is_text = λ v t s. blank_text texts t s;
+  utf8 = λ v t s. blank_utf8 t s;
 }
 
 space_takes : (s r : List ℕ) (v : Unit {0}) → read_space s ≡ Some (v, r) → (t : List ℕ) × IsSpace t × (s ≡ t ++ r)
@@ -103,30 +122,36 @@ space_again (b ∷ bs) r v h out =
     let rest = (run_again is_space bs r both.1 (no_space r out)).1 in
     rw first (rw rest refl)
 
-pub lawful_space : {T : List ℕ → Type 0} → Texts T → Lawful T space
-lawful_space texts = record {
+pub lawful_space : Lawful space
+lawful_space = record {
   takes = λ s v r u h. space_takes s r v h;
-  again = λ v t r u s out. space_again t r v s out;
+  again = λ v t r s out. space_again t r v s out;
+  begins = λ s v r h.
+      let one = space_takes s r v h in
+      inr (λ l i. subst (λ s. sees (spaced_by l) s ≡ true) (sym one.2) (some_blank one.0 one.1.0 one.1.1 l r i));
   leads = λ v t s. inr (s.1, some_blank t s.0 s.1);
-  is_text = λ v t s. blank_text texts t s.0;
+  utf8 = λ v t s. blank_utf8 t s.0;
 }
 
 -- ---- the longest front of some bytes
 
 -- the bytes are in the class and no white space; the test is that of texts of such bytes, of which there are some
-pub record IsPiece (T : List ℕ → Type 0) (p : ℕ → Bool) (c : List Span) (test : List ℕ → Bool) (Is : List ℕ → Type 0) : Type 0 where
+pub record IsPiece (p : ℕ → Bool) (c : List Span) (test : List ℕ → Bool) (Is : List ℕ → Type 0) : Type 0 where
   pub in_ : (b : ℕ) → p b ≡ true → in_class c b ≡ true
   pub solid : (b : ℕ) → p b ≡ true → is_space b ≡ false
-  pub cuts : (s : List ℕ) → T s → T (run p s)
-  pub from : (t : List ℕ) → T t → list_all p t ≡ true → test t ≡ true → Is t
+  pub cuts : (s : List ℕ) → IsUtf8 s → IsUtf8 (run p s)
+  pub from : (t : List ℕ) → IsUtf8 t → list_all p t ≡ true → test t ≡ true → Is t
   pub to : (t : List ℕ) → Is t → test t ≡ true
   pub all : (t : List ℕ) → Is t → list_all p t ≡ true
-  pub some : (t : List ℕ) → Is t → t ≢ []
-  pub is_text : (t : List ℕ) → Is t → T t
+  pub none : test [] ≡ false
+  pub utf8 : (t : List ℕ) → Is t → IsUtf8 t
 
-module _ {T : List ℕ → Type 0} (p : ℕ → Bool) (c : List Span) (test : List ℕ → Bool) (Is : List ℕ → Type 0) (is : IsPiece T p c test Is) where
+module _ (p : ℕ → Bool) (c : List Span) (test : List ℕ → Bool) (Is : List ℕ → Type 0) (is : IsPiece p c test Is) where
+  some : (t : List ℕ) → Is t → t ≢ []
+  some t h = λ n. absurd (both_ways _ is.none (subst (λ t. test t ≡ true) n (is.to t h)))
+
   piece_leads : (t r : List ℕ) → Is t → sees (solid_in c) (t ++ r) ≡ true
-  piece_leads [] r h = absurd (is.some [] h refl)
+  piece_leads [] r h = absurd (some [] h refl)
   piece_leads (b ∷ bs) r h =
       let first = (and_parts _ _ (is.all (b ∷ bs) h)).0 in
       let solid : is_space b ≡ false = is.solid b first in
@@ -145,7 +170,7 @@ module _ {T : List ℕ → Type 0} (p : ℕ → Bool) (c : List Span) (test : Li
             | inr e ↦ e
           ]
 
-  piece_takes : (s v r : List ℕ) → T s → (piece p c test Is).read s ≡ Some (v, r) → (t : List ℕ) × (piece p c test Is).Spells v t × (s ≡ t ++ r)
+  piece_takes : (s v r : List ℕ) → IsUtf8 s → (piece p c test Is).read s ≡ Some (v, r) → (t : List ℕ) × (piece p c test Is).Spells v t × (s ≡ t ++ r)
   piece_takes s v r u h =
       elim (cases_Bool (test (run p s))) [
         | inl e ↦
@@ -163,12 +188,28 @@ module _ {T : List ℕ → Type 0} (p : ℕ → Bool) (c : List Span) (test : Li
       let same : t ≡ v = s.0 in
       rw (same, again.0, again.1, passes) refl
 
-  pub lawful_piece : Lawful T (piece p c test Is)
+  piece_seen : (s : List ℕ) → test (run p s) ≡ true → sees (solid_in c) s ≡ true
+  piece_seen [] h = absurd (both_ways _ is.none h)
+  piece_seen (b ∷ bs) h =
+      elim (cases_Bool (p b)) [
+        | inl e ↦ let solid : is_space b ≡ false = is.solid b e in rw solid (is.in_ b e)
+        | inr e ↦ let none : run p (b ∷ bs) ≡ [] = rw e refl in absurd (both_ways _ is.none (subst (λ t. test t ≡ true) none h))
+      ]
+
+  piece_begins : (s v r : List ℕ) → (piece p c test Is).read s ≡ Some (v, r) → Begins false (λ l. solid_in c) s r
+  piece_begins s v r h =
+      elim (cases_Bool (test (run p s))) [
+        | inl e ↦ inr (λ l i. piece_seen s e)
+        | inr e ↦ let none : ◌≡◌ {A = Option (List ℕ × List ℕ)} None (Some (v, r)) = rw e at h in absurd (cc)
+      ]
+
+  pub lawful_piece : Lawful (piece p c test Is)
   lawful_piece = record {
     takes = piece_takes;
-    again = λ v t r u s out. piece_again v t r s out;
-    leads = λ v t s. inr (λ n. is.some v s.1 (sym s.0 ∙ n), λ l r i. subst (λ t. sees (solid_in c) (t ++ r) ≡ true) (sym s.0) (piece_leads v r s.1));
-    is_text = λ v t s. subst T (sym s.0) (is.is_text v s.1);
+    again = λ v t r s out. piece_again v t r s out;
+    begins = piece_begins;
+    leads = λ v t s. inr (λ n. some v s.1 (sym s.0 ∙ n), λ l r i. subst (λ t. sees (solid_in c) (t ++ r) ≡ true) (sym s.0) (piece_leads v r s.1));
+    utf8 = λ v t s. subst IsUtf8 (sym s.0) (is.utf8 v s.1);
   }
 
 -- ---- one of some words
@@ -200,26 +241,41 @@ letters_parts : (t : List ℕ) → is_some_letters t ≡ true → (list_all is_l
 letters_parts [] h = absurd (cc)
 letters_parts (b ∷ bs) h = (h, λ n. absurd (cc))
 
-pub lawful_keyword : {T : List ℕ → Type 0} → Texts T → (words : List (List ℕ)) → list_all is_some_letters words ≡ true → Lawful T (keyword words)
-lawful_keyword texts words all =
+no_letters_by : (words : List (List ℕ)) → list_all is_some_letters words ≡ true → (b : Bool) → is_among words [] ≡ b → b ≡ false
+no_letters_by words all true h = let bad : false ≡ true = among_all is_some_letters words [] all h in absurd (cc)
+no_letters_by words all false h = refl
+
+no_letters_among : (words : List (List ℕ)) → list_all is_some_letters words ≡ true → is_among words [] ≡ false
+no_letters_among words all = no_letters_by words all (is_among words []) refl
+
+pub lawful_keyword : (words : List (List ℕ)) → list_all is_some_letters words ≡ true → Lawful (keyword words)
+lawful_keyword words all =
     let parts : (t : List ℕ) → is_among words t ≡ true → (list_all is_letter t ≡ true) × (t ≢ []) = λ t h. letters_parts t (among_all is_some_letters words t all h) in
     lawful_piece is_letter letters (is_among words) (λ t. IsTrue (is_among words t)) (record {
       in_ = letter_in;
       solid = letter_solid;
-      cuts = λ s u. texts.ascii (run is_letter s) (all_weaker is_letter (λ b. ltb b 128) letter_small (run is_letter s) (run_passes is_letter s));
+      cuts = ascii_run is_letter letter_small;
       from = λ t u p h. h;
       to = λ t h. h;
       all = λ t h. (parts t h).0;
-      some = λ t h. (parts t h).1;
-      is_text = λ t h. texts.ascii t (all_weaker is_letter (λ b. ltb b 128) letter_small t (parts t h).0);
+      none = no_letters_among words all;
+      utf8 = λ t h. ascii t (all_weaker is_letter (λ b. ltb b 128) letter_small t (parts t h).0);
     })
 
 -- ---- in quotes
 
-pub record IsInner (T : List ℕ → Type 0) (test : List ℕ → Bool) (Is : List ℕ → Type 0) : Type 0 where
-  pub from : (t : List ℕ) → T t → test t ≡ true → Is t
+pub record IsInner (test : List ℕ → Bool) (Is : List ℕ → Type 0) : Type 0 where
+  pub from : (t : List ℕ) → IsUtf8 t → test t ≡ true → Is t
   pub to : (t : List ℕ) → Is t → test t ≡ true
-  pub is_text : (t : List ℕ) → Is t → T t
+  pub utf8 : (t : List ℕ) → Is t → IsUtf8 t
+
+-- what stands before ASCII in text is text
+pub front_utf8 : (a : List ℕ) (c : ℕ) (x : List ℕ) → c < 128 → IsUtf8 (a ++ (c ∷ x)) → IsUtf8 a
+front_utf8 a c x small u =
+    let s = a ++ (c ∷ x) in
+    let read = get_or_at a c x 0 _ refl in
+    let cut_ = IsCharBoundary-before_ascii s _ (omega (arith, length-append a (c ∷ x))) (omega arith) in
+    subst IsUtf8 (take_at a (c ∷ x) _ refl) (IsUtf8-take s _ u cut_)
 
 quote_is : (b : ℕ) → (eqb b 34 || eqb b 39) ≡ true → IsQuote b
 quote_is b h = elim (or_cases _ _ h) [ inl e ↦ inl (eqb-true b 34 e) | inr e ↦ inr (eqb-true b 39 e) ]
@@ -236,9 +292,20 @@ quoted_leads : (v t : List ℕ) → IsQuoted v t → (t ≢ []) × ((r : List �
 quoted_leads v t (q, inl is, lacks, e) = (λ n. absurd (cc), λ r. rw (e, is) refl)
 quoted_leads v t (q, inr is, lacks, e) = (λ n. absurd (cc), λ r. rw (e, is) refl)
 
-quote_text : {T : List ℕ → Type 0} → Texts T → (q : ℕ) → IsQuote q → T (q ∷ [])
-quote_text texts q (inl is) = rw is (texts.ascii (34 ∷ []) refl)
-quote_text texts q (inr is) = rw is (texts.ascii (39 ∷ []) refl)
+quote_seen : (s v r : List ℕ) → read_quoted s ≡ Some (v, r) → sees (solid_in (from_to 0x22 0x22 ∷ from_to 0x27 0x27 ∷ [])) s ≡ true
+quote_seen [] v r h = absurd (cc)
+quote_seen (b ∷ bs) v r h =
+    elim (cases_Bool (eqb b 34 || eqb b 39)) [
+      | inl e ↦ elim (or_cases _ _ e) [
+        | inl is ↦ let same = eqb-true b 34 is in rw same refl
+        | inr is ↦ let same = eqb-true b 39 is in rw same refl
+      ]
+      | inr e ↦ let none : ◌≡◌ {A = Option (List ℕ × List ℕ)} None (Some (v, r)) = rw e at h in absurd (cc)
+    ]
+
+quote_utf8 : (q : ℕ) → IsQuote q → IsUtf8 (q ∷ [])
+quote_utf8 q (inl is) = rw is (ascii (34 ∷ []) refl)
+quote_utf8 q (inr is) = rw is (ascii (39 ∷ []) refl)
 
 to_quote : (q : ℕ) (s v r : List ℕ) → IsQuote q → read_to_quote q s ≡ Some (v, r) → (t : List ℕ) × IsQuoted v t × (q ∷ s ≡ t ++ r) × (s ≡ v ++ (q ∷ r))
 to_quote q s v r quote h =
@@ -251,15 +318,15 @@ to_quote q s v r quote h =
     ((q ∷ v) ++ q ∷ [], (q, quote, subst (λ v. list_all p v ≡ true) first (run_passes p s), refl), ap (λ t. q ∷ t) (split ∙ sym (append_assoc v (q ∷ []) r)), split)
 
 -- what is read in quotes, and that it is text
-pub any_quoted_takes : {T : List ℕ → Type 0} → Texts T → (s v r : List ℕ) → T s → read_quoted s ≡ Some (v, r) → (t : List ℕ) × IsQuoted v t × (s ≡ t ++ r) × T v
-any_quoted_takes texts [] v r u h = absurd (cc)
-any_quoted_takes {T} texts (b ∷ bs) v r u h =
+pub any_quoted_takes : (s v r : List ℕ) → read_quoted s ≡ Some (v, r) → (t : List ℕ) × IsQuoted v t × (s ≡ t ++ r) × (IsUtf8 s → IsUtf8 v)
+any_quoted_takes [] v r h = absurd (cc)
+any_quoted_takes (b ∷ bs) v r h =
     elim (cases_Bool (eqb b 34 || eqb b 39)) [
       | inl e ↦
           let quote = quote_is b e in
           let small = quote_small b quote in
           let found = to_quote b bs v r quote (rw e at h) in
-          (found.0, found.1, found.2, texts.front v b r small (subst T found.3 (texts.rest (b ∷ bs) (b ∷ []) bs u (quote_text texts b quote) refl)))
+          (found.0, found.1, found.2, λ u. front_utf8 v b r small (subst IsUtf8 found.3 (utf8_behind b bs small u)))
       | inr e ↦ let none : ◌≡◌ {A = Option (List ℕ × List ℕ)} None (Some (v, r)) = rw e at h in absurd (cc)
     ]
 
@@ -277,24 +344,24 @@ any_quoted_again v t r (q, quote, lacks, e) =
     let found = quote_again q v r lacks in
     rw split (rw tests found)
 
-module _ {T : List ℕ → Type 0} (texts : Texts T) (test : List ℕ → Bool) (Is : List ℕ → Type 0) (is : IsInner T test Is) where
-  quoted_takes : (s v r : List ℕ) → T s → tested test (read_quoted s) ≡ Some (v, r) → (t : List ℕ) × (quoted test Is).Spells v t × (s ≡ t ++ r)
+module _ (test : List ℕ → Bool) (Is : List ℕ → Type 0) (is : IsInner test Is) where
+  quoted_takes : (s v r : List ℕ) → IsUtf8 s → tested test (read_quoted s) ≡ Some (v, r) → (t : List ℕ) × (quoted test Is).Spells v t × (s ≡ t ++ r)
   quoted_takes s v r u h =
       let x = tested_some test (read_quoted s) (v, r) h in
-      let found = any_quoted_takes texts s v r u x.0 in
-      (found.0, (is.from v found.3 x.1, found.1), found.2)
+      let found = any_quoted_takes s v r x.0 in
+      (found.0, (is.from v (found.3 u) x.1, found.1), found.2)
 
-  pub lawful_quoted : Lawful T (quoted test Is)
+  pub lawful_quoted : Lawful (quoted test Is)
   lawful_quoted = record {
     takes = quoted_takes;
-    again = λ v t r u s out. let found = any_quoted_again v t r s.1 in let passes = is.to v s.0 in rw found (rw passes refl);
+    again = λ v t r s out. let found = any_quoted_again v t r s.1 in let passes = is.to v s.0 in rw found (rw passes refl);
+    begins = λ s v r h. inr (λ l i. quote_seen s v r (tested_some test (read_quoted s) (v, r) h).0);
     leads = λ v t s. let lead = quoted_leads v t s.1 in inr (lead.0, λ l r i. lead.1 r);
-    is_text = λ v t s. subst T (sym s.1.3) (texts.joined (s.1.0 ∷ v) (s.1.0 ∷ []) (texts.joined (s.1.0 ∷ []) v (quote_text texts s.1.0 s.1.1) (is.is_text v s.0)) (quote_text texts s.1.0 s.1.1));
+    utf8 = λ v t s. subst IsUtf8 (sym s.1.3) (IsUtf8-append (s.1.0 ∷ v) (s.1.0 ∷ []) (IsUtf8-append (s.1.0 ∷ []) v (quote_utf8 s.1.0 s.1.1) (is.utf8 v s.0)) (quote_utf8 s.1.0 s.1.1));
   }
 
-pub lawful_quoted_text : (test : List ℕ → Bool) → Lawful IsUtf8 (quoted_text test)
-lawful_quoted_text test = lawful_quoted utf8_texts test (λ t. IsUtf8 t × IsTrue (test t)) (record { from = λ t u h. (u, h); to = λ t h. h.1; is_text = λ t h. h.0 })
+pub lawful_quoted_text : (test : List ℕ → Bool) → Lawful (quoted_text test)
+lawful_quoted_text test = lawful_quoted test (λ t. IsUtf8 t × IsTrue (test t)) (record { from = λ t u h. (u, h); to = λ t h. h.1; utf8 = λ t h. h.0 })
 
--- where the test lets ASCII alone pass, over any kind of text
-pub lawful_quoted_ascii : {T : List ℕ → Type 0} → Texts T → (test : List ℕ → Bool) → ((t : List ℕ) → test t ≡ true → list_all (λ b. ltb b 128) t ≡ true) → Lawful T (quoted_ascii test)
-lawful_quoted_ascii texts test small = lawful_quoted texts test (λ t. IsTrue (test t)) (record { from = λ t u h. h; to = λ t h. h; is_text = λ t h. texts.ascii t (small t h) })
+pub lawful_quoted_ascii : (test : List ℕ → Bool) → ((t : List ℕ) → test t ≡ true → list_all (λ b. ltb b 128) t ≡ true) → Lawful (quoted_ascii test)
+lawful_quoted_ascii test small = lawful_quoted test (λ t. IsTrue (test t)) (record { from = λ t u h. h; to = λ t h. h; utf8 = λ t h. ascii t (small t h) })

@@ -1,6 +1,5 @@
 pub mod Looks
 pub mod Steps
-pub mod Texts
 pub mod Laws
 pub mod Leaves
 pub mod Theorems

@@ -1,73 +1,74 @@
--- What a form that is lawful gives, over texts that are UTF-8.
+-- What a form that is lawful gives. What was read is spelled so where the text is UTF-8; that what is spelled so is read
+-- again asks nothing of what follows.
 use Rattle.std.proofs.Common.{◌≡◌, ℕ, List, [], ◌∷◌, ◌++◌, false, refl, ap, sym, subst, ◌∙◌, Option, Some, None, append-nil}
+use Rattle.std.specs.Str.{IsUtf8}
 use Rattle.xt_scan.specs.Look.{sees}
 use Rattle.std.specs.Option.{option_map, IfSome, IfNone}
 use Rattle.xt_scan.specs.Form.{Form}
 use Rattle.xt_scan.specs.Front.{Front, NoFront, whole, EndsIn}
-use Rattle.xt_scan.proofs.Texts.{Texts}
 use Rattle.xt_scan.proofs.Laws.{Lawful}
 
 -- where nothing is read, nothing of it stands in front that may end there
-pub nothing_else : {T : List ℕ → Type 0} → Texts T → {A : Type 0} (f : Form A) → Lawful T f → (s : List ℕ) → T s → f.read s ≡ None → NoFront f s
-nothing_else texts f lf s u none v t r spells e out =
-    let again = lf.again v t r (texts.rest s t r u (lf.is_text v t spells) e) spells out in
-    let bad : None ≡ Some (v, r) = sym none ∙ ap f.read e ∙ again in
+pub nothing_else : {A : Type 0} (f : Form A) → Lawful f → (s : List ℕ) → f.read s ≡ None → NoFront f s
+nothing_else {A} f lf s none v t r spells e out =
+    let again = lf.again v t r spells out in
+    let bad : ◌≡◌ {A = Option (A × List ℕ)} None (Some (v, r)) = sym none ∙ ap f.read e ∙ again in
     absurd (cc)
 
 -- what is read is the only reading that may end there
-pub only_reading : {T : List ℕ → Type 0} → Texts T → {A : Type 0} (f : Form A) → Lawful T f → (s : List ℕ) → T s → (v w : A) (t r q : List ℕ) → f.read s ≡ Some (w, q) → f.Spells v t → s ≡ t ++ r → sees f.bars r ≡ false → (v ≡ w) × (r ≡ q)
-only_reading texts {A} f lf s u v w t r q found spells e out =
-    let again = lf.again v t r (texts.rest s t r u (lf.is_text v t spells) e) spells out in
-    let both : Some (v, r) ≡ Some (w, q) = sym again ∙ sym (ap f.read e) ∙ found in
+pub only_reading : {A : Type 0} (f : Form A) → Lawful f → (s : List ℕ) (v w : A) (t r q : List ℕ) → f.read s ≡ Some (w, q) → f.Spells v t → s ≡ t ++ r → sees f.bars r ≡ false → (v ≡ w) × (r ≡ q)
+only_reading {A} f lf s v w t r q found spells e out =
+    let again = lf.again v t r spells out in
+    let both : ◌≡◌ {A = Option (A × List ℕ)} (Some (v, r)) (Some (w, q)) = sym again ∙ sym (ap f.read e) ∙ found in
     let same : ◌≡◌ {A = A × List ℕ} (v, r) (w, q) = cc in
     (ap (λ p. p.0) same, ap (λ p. p.1) same)
 
-whole_by : {T : List ℕ → Type 0} → Texts T → {A : Type 0} (f : Form A) → Lawful T f → (s : List ℕ) (v : A) → T s → (o : Option (A × List ℕ)) → f.read s ≡ o → whole o ≡ Some v → f.Spells v s
-whole_by texts f lf s v u None e h = absurd (cc)
-whole_by texts f lf s v u (Some (w, [])) e h =
+whole_by : {A : Type 0} (f : Form A) → Lawful f → (s : List ℕ) (v : A) → IsUtf8 s → (o : Option (A × List ℕ)) → f.read s ≡ o → whole o ≡ Some v → f.Spells v s
+whole_by f lf s v u None e h = absurd (cc)
+whole_by f lf s v u (Some (w, [])) e h =
     let one = lf.takes s w [] u e in
     let same : w ≡ v = cc in
     subst (λ v. f.Spells v s) same (subst (f.Spells w) (sym (one.2 ∙ append-nil one.0)) one.1)
-whole_by texts f lf s v u (Some (w, b ∷ bs)) e h = absurd (cc)
+whole_by f lf s v u (Some (w, b ∷ bs)) e h = absurd (cc)
 
-pub whole_takes : {T : List ℕ → Type 0} → Texts T → {A : Type 0} (f : Form A) → Lawful T f → (s : List ℕ) (v : A) → T s → whole (f.read s) ≡ Some v → f.Spells v s
-whole_takes texts f lf s v u h = whole_by texts f lf s v u (f.read s) refl h
+pub whole_takes : {A : Type 0} (f : Form A) → Lawful f → (s : List ℕ) (v : A) → IsUtf8 s → whole (f.read s) ≡ Some v → f.Spells v s
+whole_takes f lf s v u h = whole_by f lf s v u (f.read s) refl h
 
-pub whole_again : {T : List ℕ → Type 0} → Texts T → {A : Type 0} (f : Form A) → Lawful T f → sees f.bars [] ≡ false → (s : List ℕ) (v : A) → f.Spells v s → whole (f.read s) ≡ Some v
-whole_again texts f lf ends s v spells =
-    let again : f.read s ≡ Some (v, []) = ap f.read (sym (append-nil s)) ∙ lf.again v s [] texts.none spells ends in
+pub whole_again : {A : Type 0} (f : Form A) → Lawful f → sees f.bars [] ≡ false → (s : List ℕ) (v : A) → f.Spells v s → whole (f.read s) ≡ Some v
+whole_again f lf ends s v spells =
+    let again : f.read s ≡ Some (v, []) = ap f.read (sym (append-nil s)) ∙ lf.again v s [] spells ends in
     rw again refl
 
 -- a text spells one value
-pub one_value : {T : List ℕ → Type 0} → Texts T → {A : Type 0} (f : Form A) → Lawful T f → sees f.bars [] ≡ false → (s : List ℕ) (v w : A) → f.Spells v s → f.Spells w s → v ≡ w
-one_value texts f lf ends s v w a b =
-    let x = whole_again texts f lf ends s v a in
-    let y = whole_again texts f lf ends s w b in
+pub one_value : {A : Type 0} (f : Form A) → Lawful f → sees f.bars [] ≡ false → (s : List ℕ) (v w : A) → f.Spells v s → f.Spells w s → v ≡ w
+one_value f lf ends s v w a b =
+    let x = whole_again f lf ends s v a in
+    let y = whole_again f lf ends s w b in
     let same : Some v ≡ Some w = sym x ∙ y in
     cc
 
 -- the clauses of a call whose answer is what the form reads
-pub answers_only : {T : List ℕ → Type 0} → Texts T → {A R : Type 0} (f : Form A) (g : R → A × List ℕ) → Lawful T f → (s : List ℕ) → T s → (o : Option R) → option_map g o ≡ f.read s → IfSome o (λ x. Front f s (g x).0 (g x).1)
-answers_only texts f g lf s u None e = tt
-answers_only texts f g lf s u (Some x) e = lf.takes s (g x).0 (g x).1 u (sym e)
+pub answers_only : {A R : Type 0} (f : Form A) (g : R → A × List ℕ) → Lawful f → (s : List ℕ) → IsUtf8 s → (o : Option R) → option_map g o ≡ f.read s → IfSome o (λ x. Front f s (g x).0 (g x).1)
+answers_only f g lf s u None e = tt
+answers_only f g lf s u (Some x) e = lf.takes s (g x).0 (g x).1 u (sym e)
 
-pub answers_none : {T : List ℕ → Type 0} → Texts T → {A R : Type 0} (f : Form A) (g : R → A × List ℕ) → Lawful T f → (s : List ℕ) → T s → (o : Option R) → option_map g o ≡ f.read s → IfNone o (NoFront f s)
-answers_none texts f g lf s u None e = nothing_else texts f lf s u (sym e)
-answers_none texts f g lf s u (Some x) e = tt
+pub answers_none : {A R : Type 0} (f : Form A) (g : R → A × List ℕ) → Lawful f → (s : List ℕ) (o : Option R) → option_map g o ≡ f.read s → IfNone o (NoFront f s)
+answers_none f g lf s None e = nothing_else f lf s (sym e)
+answers_none f g lf s (Some x) e = tt
 
 -- what is left stands at the end of the text
-pub ends_in : {T : List ℕ → Type 0} → Texts T → {A : Type 0} (f : Form A) → Lawful T f → (s : List ℕ) → T s → (v : A) (r : List ℕ) → f.read s ≡ Some (v, r) → EndsIn s r
-ends_in texts f lf s u v r e = let one = lf.takes s v r u e in (one.0, one.2)
+pub ends_in : {A : Type 0} (f : Form A) → Lawful f → (s : List ℕ) → IsUtf8 s → (v : A) (r : List ℕ) → f.read s ≡ Some (v, r) → EndsIn s r
+ends_in f lf s u v r e = let one = lf.takes s v r u e in (one.0, one.2)
 
 -- the clauses of a call that reads a whole text
-pub whole_only : {T : List ℕ → Type 0} → Texts T → {A R : Type 0} (f : Form A) (g : R → A) → Lawful T f → (s : List ℕ) → T s → (o : Option R) → option_map g o ≡ whole (f.read s) → IfSome o (λ x. f.Spells (g x) s)
-whole_only texts f g lf s u None e = tt
-whole_only texts f g lf s u (Some x) e = whole_takes texts f lf s (g x) u (sym e)
+pub whole_only : {A R : Type 0} (f : Form A) (g : R → A) → Lawful f → (s : List ℕ) → IsUtf8 s → (o : Option R) → option_map g o ≡ whole (f.read s) → IfSome o (λ x. f.Spells (g x) s)
+whole_only f g lf s u None e = tt
+whole_only f g lf s u (Some x) e = whole_takes f lf s (g x) u (sym e)
 
-pub whole_one : {T : List ℕ → Type 0} → Texts T → {A R : Type 0} (f : Form A) (g : R → A) → Lawful T f → sees f.bars [] ≡ false → (s : List ℕ) → T s → (o : Option R) → option_map g o ≡ whole (f.read s) → IfSome o (λ x. (v : A) → f.Spells v s → v ≡ g x)
-whole_one texts f g lf ends s u None e = tt
-whole_one texts f g lf ends s u (Some x) e = λ v spells. one_value texts f lf ends s v (g x) spells (whole_takes texts f lf s (g x) u (sym e))
+pub whole_one : {A R : Type 0} (f : Form A) (g : R → A) → Lawful f → sees f.bars [] ≡ false → (s : List ℕ) → IsUtf8 s → (o : Option R) → option_map g o ≡ whole (f.read s) → IfSome o (λ x. (v : A) → f.Spells v s → v ≡ g x)
+whole_one f g lf ends s u None e = tt
+whole_one f g lf ends s u (Some x) e = λ v spells. one_value f lf ends s v (g x) spells (whole_takes f lf s (g x) u (sym e))
 
-pub whole_none : {T : List ℕ → Type 0} → Texts T → {A R : Type 0} (f : Form A) (g : R → A) → Lawful T f → sees f.bars [] ≡ false → (s : List ℕ) → (o : Option R) → option_map g o ≡ whole (f.read s) → IfNone o ((v : A) → f.Spells v s → ⊥)
-whole_none texts f g lf ends s None e = λ v spells. let again = whole_again texts f lf ends s v spells in let bad : None ≡ Some v = e ∙ again in absurd (cc)
-whole_none texts f g lf ends s (Some x) e = tt
+pub whole_none : {A R : Type 0} (f : Form A) (g : R → A) → Lawful f → sees f.bars [] ≡ false → (s : List ℕ) → (o : Option R) → option_map g o ≡ whole (f.read s) → IfNone o ((v : A) → f.Spells v s → ⊥)
+whole_none f g lf ends s None e = λ v spells. let again = whole_again f lf ends s v spells in let bad : None ≡ Some v = e ∙ again in absurd (cc)
+whole_none f g lf ends s (Some x) e = tt
