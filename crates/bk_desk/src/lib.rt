@@ -24,6 +24,3 @@ pub use mem_source::MemSource;
 pub use source::{Failed, Source};
 pub use std_source::StdSource;
 pub use stop::Left;
-
-#[cfg(test)]
-mod tests;

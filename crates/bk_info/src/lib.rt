@@ -15,8 +15,6 @@ mod node;
 mod origin;
 mod plain;
 mod reference;
-#[cfg(test)]
-mod tests;
 
 pub use address::{Address, Siblings, Via};
 pub use attr::{Attr, How};

@@ -12,8 +12,6 @@ mod laws;
 mod name;
 mod name_order;
 mod relative_reference;
-#[cfg(test)]
-mod tests;
 mod uri;
 
 pub use base::{BadBase, Base};

@@ -17,6 +17,3 @@ pub use laws::{commands_ask, start_stands, steps_exist, told_is_saved};
 pub use replies::{line, numbered};
 pub use stop::Stop;
 pub use telling::tell_replies;
-
-#[cfg(test)]
-mod tests;

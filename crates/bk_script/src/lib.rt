@@ -12,8 +12,6 @@ mod place;
 mod script;
 mod stop;
 mod string;
-#[cfg(test)]
-mod tests;
 
 pub use command::Command;
 pub use laws::{one_command, one_fault, one_script, one_value};

@@ -12,8 +12,6 @@ mod opening;
 mod place;
 mod range;
 mod refusal;
-#[cfg(test)]
-mod tests;
 
 pub use kept::Session;
 pub use opening::{StartFault, start};

@@ -5,8 +5,6 @@
 #![tactic(auto)]
 
 mod laws;
-#[cfg(test)]
-mod tests;
 mod text;
 
 pub use laws::{no_other_value_reads_as_text, one_text_changes, pieces_tell_the_tree};

@@ -17,8 +17,6 @@ mod names;
 mod opening;
 mod source;
 mod tag;
-#[cfg(test)]
-mod tests;
 mod tree;
 mod work;
 

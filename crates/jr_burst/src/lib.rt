@@ -20,6 +20,3 @@ pub use gate::is_closed;
 pub use make::plan;
 pub use planned::Plan;
 pub use recovery::{RecoverFault, recover};
-
-#[cfg(test)]
-mod tests;

@@ -15,6 +15,3 @@ pub use condition::are_writable;
 pub use item::Item;
 pub use reading::read_journal;
 pub use writing::{one_reading, write_journal};
-
-#[cfg(test)]
-mod tests;

@@ -5,7 +5,5 @@
 #![tactic(auto)]
 
 mod content;
-#[cfg(test)]
-mod tests;
 
 pub use content::escape_text;

@@ -19,8 +19,6 @@ mod names;
 mod reference;
 mod steps;
 mod tag;
-#[cfg(test)]
-mod tests;
 mod text;
 mod token;
 

@@ -17,8 +17,6 @@ mod names;
 mod reader;
 mod stage;
 mod tags;
-#[cfg(test)]
-mod tests;
 mod text;
 mod unread;
 

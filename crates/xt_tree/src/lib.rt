@@ -7,8 +7,6 @@
 mod patch;
 mod path;
 mod source;
-#[cfg(test)]
-mod tests;
 
 pub use patch::{Patch, splice};
 pub use path::{item_at, span_at};

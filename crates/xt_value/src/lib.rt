@@ -13,8 +13,6 @@ mod markup;
 mod named;
 mod reference;
 mod scope;
-#[cfg(test)]
-mod tests;
 mod text;
 mod tokens;
 

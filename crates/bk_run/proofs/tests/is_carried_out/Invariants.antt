@@ -1,4 +1,0 @@
-use Rattle.bk_run.proofs.tests.is_carried_out.Given as goal
-
-abbrev pub ghosts-carried_out : goal.ghosts-carried_out
-ghosts-carried_out a = record { name = a.blank.name; parts = a.blank.parts }

@@ -1,4 +1,0 @@
-use Rattle.ed_session.proofs.tests.edit_once.Given as goal
-
-abbrev pub ghosts-edit_over : goal.ghosts-edit_over
-ghosts-edit_over a = record { name = a.blank.name; parts = a.blank.parts }

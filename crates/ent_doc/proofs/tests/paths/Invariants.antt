@@ -1,4 +1,0 @@
-use Rattle.ent_doc.proofs.tests.paths.Given as goal
-
-abbrev pub ghosts-paths_over : goal.ghosts-paths_over
-ghosts-paths_over a = record { name = a.blank.name; parts = a.blank.parts }

@@ -1,0 +1,33 @@
+//! A table of cases: what each step leaves of a text.
+
+use xt_scan::{after_blank, after_space, after_word, front_of, quoted};
+
+#[test]
+fn each_step_leaves_the_rest(rt: HostRuntime) {
+    for (text, word, blank, space, in_quotes) in [
+        ("", None, "", None, None),
+        ("ab c", Some("b c"), "ab c", None, None),
+        (" \t\r\na", None, "a", Some("a"), None),
+        ("\u{a0}a", None, "\u{a0}a", None, None),
+        ("\"é'\"b", None, "\"é'\"b", None, Some(("é'", "b"))),
+        ("''", None, "''", None, Some(("", ""))),
+        ("'\"a", None, "'\"a", None, None),
+    ] {
+        assert_eq!(rt; after_word("a", text), word, "at {text}");
+        assert_eq!(rt; after_blank(text), blank, "at {text}");
+        assert_eq!(rt; after_space(text), space, "at {text}");
+        assert_eq!(rt; quoted(text), in_quotes, "at {text}");
+    }
+}
+
+/// The front of a text before its rest behind optional white space and a word.
+fn front(text: &str) -> Option<&str> {
+    let rest = after_word("a", text)?;
+    Some(front_of(text, rest))
+}
+
+#[test]
+fn a_front_ends_where_its_rest_begins(rt: HostRuntime) {
+    assert_eq!(rt; front("aé"), Some("a"));
+    assert_eq!(rt; front("é"), None);
+}
