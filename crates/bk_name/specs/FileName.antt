@@ -10,6 +10,7 @@ use Rattle.std.specs.Prelude.{ℕ, Bool, not, ◌&&◌, ◌||◌, ◌==◌, nat_
 use Rattle.std.specs.List.{list_all, slice_split, starts_with}
 use Rattle.std.specs.Char.{is_ascii_alphanumeric}
 use Rattle.std.specs.Str.{chars, is_utf8}
+use Rattle.xt_spec.specs.Limit.{most_name_bytes}
 use Rattle.xt_spec.specs.Char.{is_name_char}
 
 -- the parts between the slashes, in order; a text without a slash is one part
@@ -43,4 +44,4 @@ are_segments text = list_all is_segment (segments_of text)
 
 -- the bytes are UTF-8, 255 at most, and each part between the slashes is a segment
 unfoldable pub is_file_name : List ℕ → Bool
-is_file_name bytes = is_utf8 bytes && nat_le (length bytes) 255 && are_segments bytes
+is_file_name bytes = is_utf8 bytes && nat_le (length bytes) most_name_bytes && are_segments bytes

@@ -1,6 +1,7 @@
 -- The nodes of a content, the printed tree, the infoset of nodes, the paths of items that give nodes, and the lines of faults,
 -- computed.
 use Rattle.std.proofs.Common.{◌≡◌, refl, ℕ, List, [], ◌∷◌, codes, true, false, bytes_eq, Some, None, Ok, Err}
+use Rattle.xt_spec.specs.Limit.{most_nodes}
 use Rattle.xt_spec.specs.Content.{nothing_given, element_content, text_content, comment_content}
 use Rattle.xt_spec.specs.Namespace.{NamedValue, Binding, xml_namespace, xml_scope}
 use Rattle.xt_spec.specs.Reading.{document, entity}
@@ -212,5 +213,5 @@ gives_no_unbound_element = refl
 gives_the_last_node : nodes_of file top 999999 (comment_content (codes "c") nothing_given) ≡ Ok (comment_node (codes "c") (owned file document) no_nodes)
 gives_the_last_node = refl
 
-gives_no_node_more : nodes_of file top 1000000 (comment_content (codes "c") nothing_given) ≡ Err (too_large file)
+gives_no_node_more : nodes_of file top most_nodes (comment_content (codes "c") nothing_given) ≡ Err (too_large file)
 gives_no_node_more = refl

@@ -9,6 +9,7 @@
 --   nodes_of       the nodes of a content, where so many stand before it in the document
 use Rattle.std.specs.Prelude.{◌+◌, suc, ℕ, Bool, true, false, not, ◌&&◌, nat_lt, List, [], ◌∷◌, codes, bytes_eq, if◌then◌else◌, Option, None, Some, unwrap_or, Result, Ok, Err}
 use Rattle.std.specs.List.{list_any}
+use Rattle.xt_spec.specs.Limit.{most_nodes}
 use Rattle.xt_spec.specs.Reading.{document}
 use Rattle.xt_spec.specs.Namespace.{NamedValue, Binding, prefix_of, is_declaration, scope_of, Expanded, expanded_name}
 use Rattle.xt_spec.specs.Content.{Content, nothing_given, element_content, text_content, comment_content, pi_content}
@@ -100,7 +101,7 @@ element_of file context qname values =
 
 -- a node, where fewer than 1,000,000 stand before it
 abbrev pub with_room : List ℕ → ℕ → Result Nodes Fault → Result Nodes Fault
-with_room file count others = if nat_lt count 1000000 then others else Err (too_large file)
+with_room file count others = if nat_lt count most_nodes then others else Err (too_large file)
 
 -- the nodes of a content, where so many stand before it in the document; a text with an empty value gives none
 abbrev pub nodes_of : List ℕ → Context → ℕ → Content → Result Nodes Fault

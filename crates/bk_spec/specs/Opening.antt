@@ -7,6 +7,7 @@
 --   IsOpen         the file of these bytes opens, reads as these items, and gives these nodes
 --   IsUnopened     why it doesn't, where it reads as items
 use Rattle.std.specs.Prelude.{◌≡◌, ◌≤◌, ℕ, List, [], length, codes, true, false, Ok, Err}
+use Rattle.xt_spec.specs.Limit.{most_file_bytes}
 use Rattle.bk_name.specs.Base.{uri_text}
 use Rattle.xt_spec.specs.Tree.{Items}
 use Rattle.xt_spec.specs.Reading.{document, IsReading}
@@ -28,7 +29,7 @@ abbrev pub GivesNodes : List ℕ → Context → ℕ → Items → Nodes → Typ
 GivesNodes file context count items nodes = (content : Content) × HasContent items content × (nodes_of file context count content ≡ Ok nodes)
 
 pub record IsOpen (file bytes : List ℕ) (items : Items) (nodes : Nodes) : Type 0 where
-  pub size : length bytes ≤ 4194304
+  pub size : length bytes ≤ most_file_bytes
   pub reading : IsReading document bytes items
   pub gives : GivesNodes file (top_context file) 0 items nodes
   pub apart : has_inclusion nodes ≡ false

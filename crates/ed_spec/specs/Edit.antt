@@ -7,6 +7,7 @@
 --   Accepts    none holds, and this is the book afterwards
 use Rattle.std.specs.Prelude.{◌≡◌, ◌<◌, ◌≤◌, ◌⊎◌, ℕ, List, ◌++◌, length, take, drop, Bool, true, false, None, Some, encode_utf8_all}
 use Rattle.std.specs.List.{list_all}
+use Rattle.xt_spec.specs.Limit.{most_file_bytes}
 use Rattle.xt_spec.specs.Char.{is_char}
 use Rattle.xt_spec.specs.Tree.{Items, Item, leaf_item, text_item, source_text}
 use Rattle.xt_spec.specs.Text.{HasTextValue}
@@ -69,13 +70,13 @@ pub data Refuses (items : Items) : Edit → Refusal → Type 0 where
   no_char : (place : List ℕ) (from to : ℕ) (new path characters : List ℕ) → IsInText items place from to path characters
       → list_all is_char new ≡ false → Refuses items (text_edit place from to new) bad_text
   no_room : (place : List ℕ) (from to : ℕ) (new path characters : List ℕ) → IsInText items place from to path characters
-      → list_all is_char new ≡ true → 4194304 < length (source_text (edited items path characters from to new))
+      → list_all is_char new ≡ true → most_file_bytes < length (source_text (edited items path characters from to new))
       → Refuses items (text_edit place from to new) too_large
 
 -- no test holds, and these are the items afterwards
 pub data Accepts (items : Items) : Edit → Items → Type 0 where
   accepted : (place : List ℕ) (from to : ℕ) (new path characters : List ℕ) → IsInText items place from to path characters
-      → list_all is_char new ≡ true → length (source_text (edited items path characters from to new)) ≤ 4194304
+      → list_all is_char new ≡ true → length (source_text (edited items path characters from to new)) ≤ most_file_bytes
       → Accepts items (text_edit place from to new) (edited items path characters from to new)
 
 -- the edit of the book with this root is refused so

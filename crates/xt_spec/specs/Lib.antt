@@ -1,3 +1,4 @@
+pub mod Limit
 pub mod Char
 pub mod Name
 pub mod Reference

@@ -14,6 +14,7 @@
 --   IsReading    the bytes, in this role, read as these items
 use Rattle.std.specs.Prelude.{◌≡◌, ◌≢◌, ◌⊎◌, ℕ, suc, ◌<◌, Bool, true, false, not, ◌&&◌, IsTrue, List, [], ◌∷◌, codes, bytes_eq, map, nat_eq, Option, None, Some, IsUtf8}
 use Rattle.std.specs.List.{list_any, list_all, starts_with}
+use Rattle.xt_spec.specs.Limit.{most_levels}
 use Rattle.xt_spec.specs.Char.{is_char, is_space}
 use Rattle.xt_spec.specs.Name.{IsSpeltBy}
 use Rattle.xt_spec.specs.Reference.{IsEntityRef, IsPredefined}
@@ -53,7 +54,7 @@ pub record IsElement (open_tag : List ℕ) (kids : Items) (close : Option (List 
 
 -- the element's own conditions, with so many elements round it
 pub record IsElementAt (level : ℕ) (open_tag : List ℕ) (kids : Items) (close : Option (List ℕ)) : Type 0 where
-  pub within : level < 128
+  pub within : level < most_levels
   pub element : IsElement open_tag kids close
 
 -- [43] content, within so many elements
