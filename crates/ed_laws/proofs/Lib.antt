@@ -8,4 +8,5 @@ pub mod Opened
 pub mod Bytes
 pub mod Theorems
 pub mod Replies
+pub mod LocalSteps
 mod Examples

@@ -10,8 +10,9 @@ ghost use Rattle.bk_spec.specs.Opening.{GivesNodes, IsOpen};
 ghost use Rattle.ed_spec.specs.Place.{text_set};
 ghost use Rattle.ed_spec.specs.Book.{Book, Opens};
 ghost use Rattle.ed_spec.specs.Edit.{Edit, text_edit, IsInText, range_replaced, edited, Accepts, AcceptsIn};
-ghost use Rattle.ed_spec.specs.Session.{Session, Command, Reply, Step, Does, DoesAll};
+ghost use Rattle.ed_spec.specs.Session.{Session, Command, Reply, Step, opened, Does, DoesAll};
 ghost use Rattle.ed_laws.specs.Bytes.{ChangesOneText};
+ghost use Rattle.ed_laws.specs.LocalSteps.{IsLocalEdit, AreLocalSteps};
 ghost use Rattle.ed_laws.specs.Outcome.{Outcome, HasOutcome};
 
 /// An edit of a text gives the text at the place its new value, and the other nodes stay; a text whose new value is empty
@@ -65,4 +66,13 @@ pub fn one_reply()
     ensures law { (root : List ℕ) (s t u : Session) (command : Command) (r q : Reply) → Does root s command r t → Does root s command q u → (r ≡ q) × (t ≡ u) }
     ensures value { (root : List ℕ) (s t u : Session) (commands : List Command) (xs ys : List Step)
         → DoesAll root s commands xs t → DoesAll root s commands ys u → (xs ≡ ys) × (t ≡ u) }
+{}
+
+/// An accepted edit is local: the root opens before and after it, with nodes that differ in one text, its bytes differ in
+/// that text's item, and no other file does. `value` says so of the steps of a session in which nothing was done: each makes
+/// a local edit, takes one back, or leaves the book as it was.
+pub fn steps_are_local()
+    ensures law { (root : List ℕ) (edit : Edit) (book next : Book) → AcceptsIn root book edit next → IsLocalEdit root edit book next }
+    ensures value { (root : List ℕ) (book : Book) (last : Session) (commands : List Command) (steps : List Step)
+        → DoesAll root (opened root book) commands steps last → AreLocalSteps root book commands steps }
 {}
