@@ -9,4 +9,5 @@ pub mod Bytes
 pub mod Theorems
 pub mod Replies
 pub mod LocalSteps
+pub mod NodePlaces
 mod Examples
