@@ -55,7 +55,7 @@ changes_one_text items others place from to new accepts =
 
 -- ---- in a book
 
-file_there : (name bytes : List ℕ) (book : Book) → with_file name bytes book name ≡ Some bytes
+pub file_there : (name bytes : List ℕ) (book : Book) → with_file name bytes book name ≡ Some bytes
 file_there name bytes book =
     let same : pointwise nat_eq name name ≡ true = (bytes_decides name name).1 refl in
     rw same refl

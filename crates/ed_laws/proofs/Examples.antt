@@ -1,11 +1,15 @@
 -- Edits of a small tree and their outcomes, and where its texts stand.
-use Rattle.std.proofs.Common.{◌≡◌, ◌∙◌, ℕ, List, [], ◌∷◌, ◌++◌, refl, ap, get_or, arith, inr, codes, Some, None, encode_utf8_all, append-nil}
+use Rattle.std.proofs.Common.{◌≡◌, ◌≢◌, ◌∙◌, sym, Option, ℕ, List, [], ◌∷◌, ◌++◌, refl, ap, get_or, arith, inr, codes, Some, None, encode_utf8_all, append-nil}
 use Rattle.xt_spec.specs.Tree.{Items, nil, element, leaf, text_item, comment_item, leaf_item, element_item, append, source_text}
 use Rattle.xt_spec.specs.Text.{HasTextValue, section_part}
-use Rattle.ed_spec.specs.Edit.{text_edit, no_such_place, wrong_kind, bad_range, no_node, no_text, no_range, accepted}
+use Rattle.ed_spec.specs.Book.{Book}
+use Rattle.ed_spec.specs.Session.{edit, burst, done, saved_files, Step}
+use Rattle.ed_spec.specs.Session as session
+use Rattle.ed_spec.specs.Edit.{Edit, text_edit, no_such_place, wrong_kind, bad_range, no_node, no_text, no_range, accepted}
 use Rattle.xt_spec.proofs.PathLemmas.{source_text-append}
 use Rattle.ed_laws.specs.Outcome.{refused, gives, HasOutcome}
 use Rattle.ed_laws.specs.Bytes.{StandsBetween}
+use Rattle.ed_laws.specs.LocalSteps.{IsLocalStep, AreLocalSteps}
 use Rattle.xt_escape.proofs.Theorems.{escape_has_value}
 use Rattle.ed_laws.proofs.Outcomes.{one_outcome}
 
@@ -70,3 +74,26 @@ stands_not_in_front : StandsBetween twice (0 ∷ 2 ∷ []) (codes "<a>") (codes 
 stands_not_in_front stands =
     let fourth : 0x78 ≡ 0x3C = ap (λ (l : List ℕ). get_or l 3 0) (stands.put nil) in
     omega (arith, fourth)
+
+-- ---- steps
+
+-- an edit that was refused leaves the book, and so does a save
+refused_stays : (root : List ℕ) (book : Book) (e : Edit) → IsLocalStep root book (edit e) (session.refused bad_range) book
+refused_stays root book e = refl
+
+save_stays : (root : List ℕ) (book : Book) → IsLocalStep root book burst (saved_files 1) book
+save_stays root book = refl
+
+-- an edit that takes the root away is not local
+takes_the_root : (root : List ℕ) (book next : Book) (place : List ℕ) (from to : ℕ) (new : List ℕ) → next root ≡ None → IsLocalStep root book (edit (text_edit place from to new)) done next → ⊥
+takes_the_root root book next place from to new none is =
+    let bad : ◌≡◌ {A = Option (List ℕ)} None (Some (source_text is.others)) = sym none ∙ is.after in
+    absurd (cc)
+
+-- .. nor one that writes another file
+writes_another : (root name : List ℕ) (book next : Book) (place : List ℕ) (from to : ℕ) (new : List ℕ) → name ≢ root → next name ≢ book name → IsLocalStep root book (edit (text_edit place from to new)) done next → ⊥
+writes_another root name book next place from to new apart other is = other (is.same name apart)
+
+-- there are no steps without commands
+no_command : (root : List ℕ) (book : Book) (step : Step) → AreLocalSteps root book [] (step ∷ []) → ⊥
+no_command root book step are = are

@@ -8,4 +8,6 @@ pub mod Opened
 pub mod Bytes
 pub mod Theorems
 pub mod Replies
+pub mod LocalSteps
+pub mod NodePlaces
 mod Examples

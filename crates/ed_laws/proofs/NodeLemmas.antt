@@ -23,7 +23,7 @@ room_ok file count others nodes is = by (nat_lt count 1000000) refl is
 has_room : (file : List ℕ) (count : ℕ) (others : Result Nodes Fault) → nat_lt count 1000000 ≡ true → with_room file count others ≡ others
 has_room file count others less = rw less refl
 
-is_made : (made nodes : Nodes) → ◌≡◌ {A = Result Nodes Fault} (Ok made) (Ok nodes) → nodes ≡ made
+pub is_made : (made nodes : Nodes) → ◌≡◌ {A = Result Nodes Fault} (Ok made) (Ok nodes) → nodes ≡ made
 is_made made nodes is = cc
 
 -- ---- an element

@@ -1,2 +1,4 @@
 pub mod Outcome
 pub mod Bytes
+pub mod LocalSteps
+pub mod NodePlaces

@@ -1,17 +1,20 @@
 //! Laws of edits, each a clause of a function that does nothing.
 
-ghost use Rattle.std.specs.Prelude.{◌≡◌, ◌≢◌, List, ℕ, true, Some, encode_utf8_all};
+ghost use Rattle.std.specs.Prelude.{◌≡◌, ◌≢◌, List, ℕ, true, Some, is_some, encode_utf8_all};
 ghost use Rattle.std.specs.List.{list_all};
 ghost use Rattle.xt_spec.specs.Char.{is_char};
-ghost use Rattle.xt_spec.specs.Tree.{Items, source_text};
+ghost use Rattle.xt_spec.specs.Tree.{Items, Item, source_text};
+ghost use Rattle.xt_spec.specs.Paths.{item_at};
 ghost use Rattle.bk_spec.specs.Node.{Nodes};
 ghost use Rattle.bk_spec.specs.DocumentNodes.{Context};
 ghost use Rattle.bk_spec.specs.Opening.{GivesNodes, IsOpen};
-ghost use Rattle.ed_spec.specs.Place.{text_set};
+ghost use Rattle.ed_spec.specs.Place.{path_of, text_set};
 ghost use Rattle.ed_spec.specs.Book.{Book, Opens};
 ghost use Rattle.ed_spec.specs.Edit.{Edit, text_edit, IsInText, range_replaced, edited, Accepts, AcceptsIn};
-ghost use Rattle.ed_spec.specs.Session.{Session, Command, Reply, Step, Does, DoesAll};
+ghost use Rattle.ed_spec.specs.Session.{Session, Command, Reply, Step, opened, Does, DoesAll};
 ghost use Rattle.ed_laws.specs.Bytes.{ChangesOneText};
+ghost use Rattle.ed_laws.specs.LocalSteps.{IsLocalEdit, AreLocalSteps};
+ghost use Rattle.ed_laws.specs.NodePlaces.{has_node};
 ghost use Rattle.ed_laws.specs.Outcome.{Outcome, HasOutcome};
 
 /// An edit of a text gives the text at the place its new value, and the other nodes stay; a text whose new value is empty
@@ -65,4 +68,21 @@ pub fn one_reply()
     ensures law { (root : List ℕ) (s t u : Session) (command : Command) (r q : Reply) → Does root s command r t → Does root s command q u → (r ≡ q) × (t ≡ u) }
     ensures value { (root : List ℕ) (s t u : Session) (commands : List Command) (xs ys : List Step)
         → DoesAll root s commands xs t → DoesAll root s commands ys u → (xs ≡ ys) × (t ≡ u) }
+{}
+
+/// An accepted edit is local: the root opens before and after it, with nodes that differ in one text, its bytes differ in
+/// that text's item, and no other file does. `value` says so of the steps of a session in which nothing was done: each makes
+/// a local edit, takes one back, or leaves the book as it was.
+pub fn steps_are_local()
+    ensures law { (root : List ℕ) (edit : Edit) (book next : Book) → AcceptsIn root book edit next → IsLocalEdit root edit book next }
+    ensures value { (root : List ℕ) (book : Book) (last : Session) (commands : List Command) (steps : List Step)
+        → DoesAll root (opened root book) commands steps last → AreLocalSteps root book commands steps }
+{}
+
+/// Places are those of the printed tree: one leads to an item exactly where the nodes have a node. `value`: the path that it
+/// leads along is that of an item.
+pub fn places_have_nodes()
+    ensures law { (file : List ℕ) (context : Context) (count : ℕ) (items : Items) (nodes : Nodes)
+        → GivesNodes file context count items nodes → (place : List ℕ) → is_some (path_of items place) ≡ has_node nodes place }
+    ensures value { (items : Items) (place path : List ℕ) → path_of items place ≡ Some path → (item : Item) × (item_at items path ≡ Some item) }
 {}

@@ -7,5 +7,5 @@ mod laws;
 
 pub use laws::{
     an_edit_has_an_outcome, an_edited_document_opens, edit_changes_the_node, one_outcome,
-    one_reply, other_bytes_stay, other_files_stay,
+    one_reply, other_bytes_stay, other_files_stay, places_have_nodes, steps_are_local,
 };
