@@ -1,5 +1,6 @@
 -- The definitions computed on right and on wrong cases.
 use Rattle.std.proofs.Common.{◌≡◌, ℕ, true, false, refl, ◌∷◌, ◌++◌, inl, inr, [], Some, None, codes, arith}
+use Rattle.xt_lex.specs.XmlDecl.{version, encoding, standalone, declared_values}
 use Rattle.xt_spec.specs.Declaration.{is_version_num, is_enc_name, is_yes_or_no, is_utf8_or_absent, Declaration, IsDeclarationOf, is_xml_declaration, is_text_declaration}
 use Rattle.xt_spec.specs.Doctype.{is_pubid_char, literal_part, comment_part, pi_part, other_part, AreSubsetParts, IsSubset, IsDoctype}
 use Rattle.xt_spec.specs.Markup.{lacks, IsCDataSection, IsComment, is_reserved, IsPi}
@@ -184,3 +185,16 @@ shortest_doctype = record {
   is_brackets = inl refl;
   spelled = refl;
 }
+
+-- the forms of a declaration: a version alone; the parts in another order, and neither form
+reads_a_version : declared_values.read (codes " version='1.0' ?>a") ≡ Some (record { version = Some (codes "1.0"); encoding = None; standalone = None }, codes "a")
+unfolding declared_values version encoding standalone
+reads_a_version = refl
+
+reads_no_encoding_before_a_version : declared_values.read (codes " encoding='UTF-8' version='1.0'?>") ≡ None
+unfolding declared_values version encoding standalone
+reads_no_encoding_before_a_version = refl
+
+reads_no_standalone_alone : declared_values.read (codes " standalone=\"yes\"?>") ≡ None
+unfolding declared_values version encoding standalone
+reads_no_standalone_alone = refl
