@@ -61,7 +61,7 @@ def run_section(section, folder, room):
     lines = ["exec 2>&1"]
     for example in section:
         lines += [*example.command, f"printf '%s\\n' '{MARK}'"]
-    environment = {"PATH": f"{room}/bin:{os.environ.get('PATH', '/usr/bin:/bin')}", "HOME": str(room), "LANG": "C.UTF-8", "BOOKEDIT": f"{room}/bin/bookedit"}
+    environment = {"PATH": f"{room}/bin:{os.environ.get('PATH', '/usr/bin:/bin')}", "HOME": str(room), "LANG": "C.UTF-8", "PYTHONDONTWRITEBYTECODE": "1", "BOOKEDIT": f"{room}/bin/bookedit"}
     if os.access(TOP / "crates/book_where/out/book_where", os.X_OK):
         environment["BOOKWHERE"] = str(TOP / "crates/book_where/out/book_where")
     (room / "section.sh").write_text("\n".join(lines) + "\n")
