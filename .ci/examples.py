@@ -14,6 +14,7 @@ import subprocess
 import sys
 import tempfile
 from pathlib import Path
+from typing import NamedTuple
 
 TOP = Path(__file__).resolve().parent.parent
 TEXTS = ["README.md", "examples/README.md", "docs/GUIDE.md", "docs/SAVING.md"]
@@ -22,18 +23,30 @@ TOOLS = ["places", "why", "preview"]
 MARK = "== end of one command =="
 
 
+class Example(NamedTuple):
+    """The number of its line, the lines of its command and of what is shown."""
+
+    number: int
+    command: list
+    shown: list
+
+
 def sections(text):
-    """The examples of each section, as the number of a line, a command and what is shown of it."""
-    found, inside = [[]], False
+    """The examples of each section. What stands behind <<'END' goes on in lines that begin with `> `."""
+    found, inside, here = [[]], False, False
     for number, line in enumerate(text.split("\n"), 1):
         if not inside and line.startswith("## "):
             found.append([])
         elif line.startswith("```"):
             inside = line == "```console" and not inside
         elif inside and line.startswith("$ "):
-            found[-1].append((number, line[2:], []))
+            found[-1].append(Example(number, [line[2:]], []))
+            here = line.endswith("<<'END'")
+        elif inside and here:
+            found[-1][-1].command.append(line[2:])
+            here = line != "> END"
         elif inside and found[-1]:
-            found[-1][-1][2].append(line)
+            found[-1][-1].shown.append(line)
     return [section for section in found if section]
 
 
@@ -46,12 +59,14 @@ def is_told(told, shown):
 def run_section(section, folder, room):
     """What each command of a section told."""
     lines = ["exec 2>&1"]
-    for _, command, _ in section:
-        lines += [command, f"printf '%s\\n' '{MARK}'"]
-    environment = {"PATH": f"{room}/bin:/usr/local/bin:/usr/bin:/bin", "HOME": str(room), "LANG": "C.UTF-8", "BOOKEDIT": f"{room}/bin/bookedit"}
+    for example in section:
+        lines += [*example.command, f"printf '%s\\n' '{MARK}'"]
+    environment = {"PATH": f"{room}/bin:{os.environ.get('PATH', '/usr/bin:/bin')}", "HOME": str(room), "LANG": "C.UTF-8", "PYTHONDONTWRITEBYTECODE": "1", "BOOKEDIT": f"{room}/bin/bookedit"}
     if os.access(TOP / "crates/book_where/out/book_where", os.X_OK):
         environment["BOOKWHERE"] = str(TOP / "crates/book_where/out/book_where")
-    ran = subprocess.run(["sh"], input="\n".join(lines) + "\n", cwd=folder, env=environment, stdout=subprocess.PIPE, stderr=subprocess.STDOUT, text=True, errors="replace", timeout=60)
+    (room / "section.sh").write_text("\n".join(lines) + "\n")
+    how = {"stdin": subprocess.DEVNULL, "stdout": subprocess.PIPE, "stderr": subprocess.STDOUT, "text": True, "errors": "replace"}
+    ran = subprocess.run(["sh", f"{room}/section.sh"], cwd=folder, env=environment, timeout=60, **how)
     return ran.stdout.split(f"{MARK}\n")
 
 
@@ -66,9 +81,9 @@ def failures(name, program):
             for tool in TOOLS:
                 (room / "bin" / tool).symlink_to(TOP / "tools" / tool)
             told = run_section(section, room / FOLDERS.get(name, "."), room)
-        for (number, command, shown), was in zip(section, told + [""] * len(section)):
-            if not is_told(was, shown):
-                yield f"{name}:{number}: `{command}` does not tell what is shown:\n" + "".join(f"    {line}\n" for line in was.splitlines())
+        for example, was in zip(section, told + [""] * len(section)):
+            if not is_told(was, example.shown):
+                yield f"{name}:{example.number}: `{example.command[0]}` does not tell what is shown:\n" + "".join(f"    {line}\n" for line in was.splitlines())
 
 
 def main(words):

@@ -12,6 +12,8 @@ HERE = Path(__file__).resolve().parent
 # As many bytes as a file of a book has at most; larger ones are not copied but for their first bytes.
 MOST = 4_194_304
 CONTROL = (".burst-journal", ".burst-gate")
+# A folder of more files than a book may have names, or of more bytes than a gibibyte of copies, is taken for no book's.
+MOST_FILES, MOST_BYTES = 20_000, 2**30
 NODE = re.compile(rb"( *)(element|text|comment|pi) ")
 
 
@@ -23,20 +25,23 @@ def program(name, variable):
 
 
 def copy_file(file, to):
-    """A copy; of a file that is too large, so many bytes that it stays so."""
+    """A copy, and how many bytes it has; of a file that is too large, so many that it stays so."""
     with open(file, "rb") as read, open(to, "wb") as write:
-        write.write(read.read(MOST + 1))
+        return write.write(read.read(MOST + 1))
 
 
 def copy_folder(folder, to):
     """Copies the files at and below a folder, but for hidden ones that are no control files of a save."""
+    count, size = 0, 0
     for at, folders, files in os.walk(folder):
         folders[:] = sorted(name for name in folders if not name.startswith("."))
         inside = Path(to) / Path(at).relative_to(folder)
         inside.mkdir(exist_ok=True)
         for name in files:
             if (not name.startswith(".") or name in CONTROL) and (Path(at) / name).is_file() and os.access(Path(at) / name, os.R_OK):
-                copy_file(Path(at) / name, inside / name)
+                count, size = count + 1, size + copy_file(Path(at) / name, inside / name)
+                if count > MOST_FILES or size > MOST_BYTES:
+                    raise OSError(f"{folder} has more files than a book: run this in the book's own folder")
 
 
 class Run(NamedTuple):
