@@ -3,6 +3,7 @@ use Rattle.std.proofs.Common.{◌≡◌, ℕ, ◌+◌, ◌<◌, ◌≤◌, false
 use Rattle.std.specs.Prelude.{IfOk, IfErr}
 use Rattle.std.proofs.lemmas.Bool.{cases_Bool, ltb-true, ltb-false, lt-ltb, le-ltb}
 use Rattle.std.proofs.lemmas.List.{length-append}
+use Rattle.xt_spec.specs.Limit.{most_commands, most_script_bytes}
 use Rattle.bk_script.specs.Command.{Command}
 use Rattle.bk_script.specs.Script.{IsLine, joined, AreRead, IsScript, IsReadTo, IsFaultOf}
 use Rattle.bk_script.specs.Reading.{line_of, Outcome, added, and_then, ended_line_at, lines_of, lines_read, script_read, Fails, Answers}
@@ -18,16 +19,16 @@ err_is a b e = cc
 
 -- ---- one line
 
-added_some : (o : Option (Option Command)) (n : ℕ) (front all : List Command) → added o n front ≡ Ok all → (found : Option Command) × (o ≡ Some found) × (all ≡ front ++ joined found []) × (length front ≤ 4096 → length all ≤ 4096)
+added_some : (o : Option (Option Command)) (n : ℕ) (front all : List Command) → added o n front ≡ Ok all → (found : Option Command) × (o ≡ Some found) × (all ≡ front ++ joined found []) × (length front ≤ most_commands → length all ≤ most_commands)
 added_some None n front all e = absurd cc
 added_some (Some None) n front all e =
     let same : front ≡ all = ok_is front all e in
-    (None, refl, sym same ∙ sym (append-nil front), λ le. subst (λ (l : List Command). length l ≤ 4096) same le)
+    (None, refl, sym same ∙ sym (append-nil front), λ le. subst (λ (l : List Command). length l ≤ most_commands) same le)
 added_some (Some (Some c)) n front all e =
-    elim (cases_Bool (ltb (length front) 4096)) [
+    elim (cases_Bool (ltb (length front) most_commands)) [
       | inl lt ↦
           let same : front ++ c ∷ [] ≡ all = ok_is _ _ (rw lt at e) in
-          let small : length front < 4096 = ltb-true _ _ lt in
+          let small : length front < most_commands = ltb-true _ _ lt in
           (Some c, refl, sym same, λ _. omega (arith, ap length same, length-append front (c ∷ []), small))
       | inr ge ↦ let none : ◌≡◌ {A = Outcome} (Err fault.Many) (Ok all) = rw ge at e in absurd cc
     ]
@@ -35,7 +36,7 @@ added_some (Some (Some c)) n front all e =
 abbrev StopsFor : ScriptFault → Option (Option Command) → ℕ → List Command → Type 0
 StopsFor fault.Long o n front = ⊥
 StopsFor (fault.BadLine number) o n front = (o ≡ None) × (number ≡ n)
-StopsFor fault.Many o n front = ((c : Command) × (o ≡ Some (Some c))) × (4096 ≤ length front)
+StopsFor fault.Many o n front = ((c : Command) × (o ≡ Some (Some c))) × (most_commands ≤ length front)
 StopsFor fault.NoMemory o n front = ⊥
 
 added_err : (o : Option (Option Command)) (n : ℕ) (front : List Command) (e : ScriptFault) → added o n front ≡ Err e → StopsFor e o n front
@@ -44,7 +45,7 @@ added_err None n front e is =
     subst (λ (d : ScriptFault). StopsFor d None n front) same (refl, refl)
 added_err (Some None) n front e is = absurd cc
 added_err (Some (Some c)) n front e is =
-    elim (cases_Bool (ltb (length front) 4096)) [
+    elim (cases_Bool (ltb (length front) most_commands)) [
       | inl lt ↦ let none : ◌≡◌ {A = Outcome} (Ok (front ++ c ∷ [])) (Err e) = rw lt at is in absurd cc
       | inr ge ↦
           let same : fault.Many ≡ e = err_is _ _ (rw ge at is) in
@@ -61,7 +62,7 @@ record AreTaken (front : List Command) (lines : List (List ℕ)) (all : List Com
   pub own : List Command
   pub read : AreRead lines own
   pub whole : all ≡ front ++ own
-  pub count : length front ≤ 4096 → length all ≤ 4096
+  pub count : length front ≤ most_commands → length all ≤ most_commands
 
 then_ok : (o : Outcome) (go : List Command → Outcome) (all : List Command) → and_then o go ≡ Ok all → (next : List Command) × (o ≡ Ok next) × (go next ≡ Ok all)
 then_ok (Ok next) go all e = (next, refl, e)
@@ -71,7 +72,7 @@ lines_take : (n : ℕ) (front : List Command) (lines : List (List ℕ)) (all : L
 unfolding lines_read
 lines_take n front [] all e =
     let same : front ≡ all = ok_is front all e in
-    record { own = []; read = refl; whole = sym same ∙ sym (append-nil front); count = λ le. subst (λ (l : List Command). length l ≤ 4096) same le }
+    record { own = []; read = refl; whole = sym same ∙ sym (append-nil front); count = λ le. subst (λ (l : List Command). length l ≤ most_commands) same le }
 lines_take n front (line ∷ lines) all e =
     let one = then_ok (added (line_of line) n front) (λ next. lines_read (n + 1) next lines) all e in
     let a = added_some (line_of line) n front one.0 one.1 in
@@ -91,7 +92,7 @@ record IsStopped (n : ℕ) (front : List Command) (lines : List (List ℕ)) (e :
   pub own : List Command
   pub whole : lines ≡ before ++ line ∷ behind
   pub read : AreRead before own
-  pub count : length front ≤ 4096 → length (front ++ own) ≤ 4096
+  pub count : length front ≤ most_commands → length (front ++ own) ≤ most_commands
   pub stops : StopsFor e (line_of line) (n + length before) (front ++ own)
 
 then_err : (o : Outcome) (go : List Command → Outcome) (e : ScriptFault) → and_then o go ≡ Err e → (o ≡ Err e) ⊎ ((next : List Command) × (o ≡ Ok next) × (go next ≡ Err e))
@@ -108,7 +109,7 @@ stopped_here n front line lines e is =
       own = [];
       whole = refl;
       read = refl;
-      count = λ le. subst (λ (l : List Command). length l ≤ 4096) (sym (append-nil front)) le;
+      count = λ le. subst (λ (l : List Command). length l ≤ most_commands) (sym (append-nil front)) le;
       stops = subst (λ (l : List Command). StopsFor e (line_of line) (n + 0) l) (sym (append-nil front)) (subst (λ (m : ℕ). StopsFor e (line_of line) m front) k (added_err (line_of line) n front e is));
     }
 
@@ -124,7 +125,7 @@ stopped_later n front next line lines e is later =
       own = joined a.0 later.own;
       whole = ap (λ (l : List (List ℕ)). line ∷ l) later.whole;
       read = (a.0, later.own, line_takes line a.0 a.1, later.read, refl);
-      count = λ le. subst (λ (l : List Command). length l ≤ 4096) whole (later.count (a.3 le));
+      count = λ le. subst (λ (l : List Command). length l ≤ most_commands) whole (later.count (a.3 le));
       stops = subst (λ (l : List Command). StopsFor e (line_of later.line) (n + length (line ∷ later.before)) l) whole (subst (λ (m : ℕ). StopsFor e (line_of later.line) m (next ++ later.own)) k later.stops);
     }
 
@@ -139,33 +140,33 @@ lines_stop_for n front (line ∷ lines) e is =
 
 -- ---- lines that are read again
 
-added_again : (found : Option Command) (n : ℕ) (front others : List Command) → length (front ++ joined found others) ≤ 4096 → added (Some found) n front ≡ Ok (front ++ joined found [])
+added_again : (found : Option Command) (n : ℕ) (front others : List Command) → length (front ++ joined found others) ≤ most_commands → added (Some found) n front ≡ Ok (front ++ joined found [])
 added_again None n front others le = ap (λ (l : List Command). Ok l) (sym (append-nil front))
 added_again (Some c) n front others le =
-    let small : length front < 4096 = omega (arith, le, length-append front (c ∷ others)) in
+    let small : length front < most_commands = omega (arith, le, length-append front (c ∷ others)) in
     rw (lt-ltb _ _ small) refl
 
-lines_front : (n : ℕ) (front : List Command) (before more : List (List ℕ)) (own : List Command) → AreRead before own → length (front ++ own) ≤ 4096 → lines_read n front (before ++ more) ≡ lines_read (n + length before) (front ++ own) more
+lines_front : (n : ℕ) (front : List Command) (before more : List (List ℕ)) (own : List Command) → AreRead before own → length (front ++ own) ≤ most_commands → lines_read n front (before ++ more) ≡ lines_read (n + length before) (front ++ own) more
 unfolding lines_read
 lines_front n front [] more own e le =
     let k : n ≡ n + 0 = omega arith in
     ap (λ (m : ℕ). lines_read m front more) k ∙ ap (λ (l : List Command). lines_read (n + 0) l more) (sym (ap (λ (o : List Command). front ++ o) e ∙ append-nil front))
 lines_front n front (line ∷ before) more own (found, others, is, read, e) le =
     let whole : front ++ own ≡ front ++ joined found others = ap (λ (o : List Command). front ++ o) e in
-    let fits : length (front ++ joined found others) ≤ 4096 = subst (λ (l : List Command). length l ≤ 4096) whole le in
+    let fits : length (front ++ joined found others) ≤ most_commands = subst (λ (l : List Command). length l ≤ most_commands) whole le in
     let next = front ++ joined found [] in
     let first : added (line_of line) n front ≡ Ok next = ap (λ (o : Option (Option Command)). added o n front) (line_again line found is) ∙ added_again found n front others fits in
     let same : next ++ others ≡ front ++ own = regroup front found others ∙ sym whole in
-    let rest = lines_front (n + 1) next before more others read (subst (λ (l : List Command). length l ≤ 4096) (sym same) le) in
+    let rest = lines_front (n + 1) next before more others read (subst (λ (l : List Command). length l ≤ most_commands) (sym same) le) in
     let k : n + 1 + length before ≡ n + length (line ∷ before) = omega arith in
     rw first (rest ∙ ap (λ (m : ℕ). lines_read m (next ++ others) more) k ∙ ap (λ (l : List Command). lines_read (n + length (line ∷ before)) l more) same)
 
 -- ---- scripts
 
-size_by : (bytes : List ℕ) (o : Outcome) → script_read bytes ≡ o → ((1048576 < length bytes) × (o ≡ Err fault.Long)) ⊎ ((length bytes ≤ 1048576) × (lines_read 1 [] (lines_of bytes) ≡ o))
+size_by : (bytes : List ℕ) (o : Outcome) → script_read bytes ≡ o → ((most_script_bytes < length bytes) × (o ≡ Err fault.Long)) ⊎ ((length bytes ≤ most_script_bytes) × (lines_read 1 [] (lines_of bytes) ≡ o))
 unfolding script_read
 size_by bytes o e =
-    elim (cases_Bool (ltb 1048576 (length bytes))) [
+    elim (cases_Bool (ltb most_script_bytes (length bytes))) [
       | inl long ↦ inl (ltb-true _ _ long, sym (rw long at e))
       | inr short ↦ inr (ltb-false _ _ short, rw short at e)
     ]
@@ -179,7 +180,7 @@ script_takes bytes commands e =
           record { lines = lines_of bytes; split = split_takes bytes; read = subst (AreRead (lines_of bytes)) (sym t.whole) t.read; size = short.0; count = t.count (omega arith) }
     ]
 
-fault_by : (bytes : List ℕ) (e : ScriptFault) → length bytes ≤ 1048576 → IsStopped 1 [] (lines_of bytes) e → IsFaultOf bytes e
+fault_by : (bytes : List ℕ) (e : ScriptFault) → length bytes ≤ most_script_bytes → IsStopped 1 [] (lines_of bytes) e → IsFaultOf bytes e
 fault_by bytes fault.Long size s = absurd s.stops
 fault_by bytes (fault.BadLine number) size s = (
   s.before,
@@ -231,7 +232,7 @@ fault_again bytes (fault.BadLine number) (before, line, commands, to, none, e) =
     let k : 1 + length before ≡ number = omega (arith, e) in
     inr (reached bytes before line commands to (fault.BadLine number) (rw (none_by line (line_of line) refl none) (ap (λ (m : ℕ). Err (fault.BadLine m)) k)))
 fault_again bytes fault.Many (before, line, commands, to, full, (c, is)) =
-    let large : ltb (length commands) 4096 ≡ false = le-ltb _ _ (omega (arith, full)) in
+    let large : ltb (length commands) most_commands ≡ false = le-ltb _ _ (omega (arith, full)) in
     inr (reached bytes before line commands to fault.Many (rw (line_again line (Some c) is, large) refl))
 fault_again bytes fault.NoMemory is = inl refl
 

@@ -9,6 +9,7 @@
 use Rattle.std.specs.Prelude.{◌≡◌, ℕ, zero, suc, ◌+◌, ◌-◌, ◌*◌, List, [], ◌∷◌, ◌++◌, length, take, codes, bytes_eq, Bool, true, not, ◌&&◌, ◌==◌, nat_le, nat_lt, Option, Some, None, Result, Ok, Err, if◌then◌else◌, encode_utf8}
 use Rattle.std.specs.List.{list_all, concat}
 use Rattle.std.specs.Str.{is_utf8}
+use Rattle.xt_spec.specs.Limit.{most_commands, most_script_bytes}
 use Rattle.xt_spec.specs.Reference.{is_decimal_digit, is_hexadecimal_digit, digit_value, number_behind}
 use Rattle.xt_lex.specs.Scan.{◌>>=◌, maybe, run, behind, after}
 use Rattle.bk_script.specs.Word.{is_blank, is_plain, is_scalar}
@@ -179,7 +180,7 @@ Outcome = Result (List Command) ScriptFault
 abbrev pub added : Option (Option Command) → ℕ → List Command → Outcome
 added None number front = Err (fault.BadLine number)
 added (Some None) number front = Ok front
-added (Some (Some command)) number front = if nat_lt (length front) 4096 then Ok (front ++ command ∷ []) else Err fault.Many
+added (Some (Some command)) number front = if nat_lt (length front) most_commands then Ok (front ++ command ∷ []) else Err fault.Many
 
 abbrev pub and_then : Outcome → (List Command → Outcome) → Outcome
 and_then (Ok commands) go = go commands
@@ -192,7 +193,7 @@ lines_read number front (line ∷ lines) = and_then (added (line_of line) number
 
 -- the commands of the bytes, or the first fault
 unfoldable pub script_read : List ℕ → Outcome
-script_read bytes = if nat_lt 1048576 (length bytes) then Err fault.Long else lines_read 1 [] (lines_of bytes)
+script_read bytes = if nat_lt most_script_bytes (length bytes) then Err fault.Long else lines_read 1 [] (lines_of bytes)
 
 -- a call that answers this where memory does not run out
 abbrev pub Fails : ScriptFault → Outcome → Type 0

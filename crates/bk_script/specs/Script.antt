@@ -7,6 +7,7 @@
 --   IsFaultOf  the bytes have this fault
 use Rattle.std.specs.Prelude.{◌≡◌, ℕ, ◌+◌, ◌<◌, ◌≤◌, Bool, true, false, not, ◌==◌, IsTrue, List, [], ◌∷◌, ◌++◌, ◌⊎◌, length, Option, Some, None, IsUtf8}
 use Rattle.std.specs.List.{list_all}
+use Rattle.xt_spec.specs.Limit.{most_commands, most_script_bytes}
 use Rattle.bk_script.specs.Word.{IsBlank, AreSpelled}
 use Rattle.bk_script.specs.Command.{Command, IsCommandLine, is_built}
 use Rattle.bk_script.specs.declared.script.ScriptFault.{ScriptFault}
@@ -56,8 +57,8 @@ pub record IsScript (bytes : List ℕ) (commands : List Command) : Type 0 where
   pub lines : List (List ℕ)
   pub split : IsSplit bytes lines
   pub read : AreRead lines commands
-  pub size : length bytes ≤ 1048576
-  pub count : length commands ≤ 4096
+  pub size : length bytes ≤ most_script_bytes
+  pub count : length commands ≤ most_commands
 
 -- of bytes that are not too many: the line, those before it and behind it, and the commands of those before it, of
 -- which there are not too many
@@ -65,17 +66,17 @@ pub record IsReadTo (bytes : List ℕ) (before : List (List ℕ)) (line : List �
   pub behind : List (List ℕ)
   pub split : IsSplit bytes (before ++ line ∷ behind)
   pub read : AreRead before commands
-  pub size : length bytes ≤ 1048576
-  pub count : length commands ≤ 4096
+  pub size : length bytes ≤ most_script_bytes
+  pub count : length commands ≤ most_commands
 
 -- Long: more than 1,048,576 bytes. BadLine: the first line that isn't UTF-8, has no reading or whose command isn't
 -- built, with its number from 1. Many: the line with the 4,097th command. Of the last two the one that comes first.
 abbrev pub IsFaultOf : List ℕ → ScriptFault → Type 0
-IsFaultOf bytes Long = 1048576 < length bytes
+IsFaultOf bytes Long = most_script_bytes < length bytes
 IsFaultOf bytes (BadLine number) =
     (before : List (List ℕ)) × (line : List ℕ) × (commands : List Command) × IsReadTo bytes before line commands
     × ((found : Option Command) → ¬ IsLine line found) × (number ≡ length before + 1)
 IsFaultOf bytes Many =
     (before : List (List ℕ)) × (line : List ℕ) × (commands : List Command) × IsReadTo bytes before line commands
-    × (length commands ≡ 4096) × ((command : Command) × IsLine line (Some command))
+    × (length commands ≡ most_commands) × ((command : Command) × IsLine line (Some command))
 IsFaultOf bytes NoMemory = Unit {0}

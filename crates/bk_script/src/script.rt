@@ -1,6 +1,7 @@
 //! Scripts.
 
 ghost use Rattle.std.specs.Prelude.{◌≡◌, ◌+◌, ◌≤◌, IfOk, IfErr, map, Some, [], List, length, option_map};
+ghost use Rattle.xt_spec.specs.Limit.{most_script_bytes};
 ghost use Rattle.bk_script.specs.Command as model;
 ghost use Rattle.bk_script.specs.declared.script.ScriptFault.TheVariants.{NoMemory};
 ghost use Rattle.bk_script.specs.Reading.{Answers, added, ended_line_at, without_cr, line_of, lines_of, lines_read, script_read};
@@ -77,7 +78,7 @@ fn add_line(
 }
 
 fn read_lines(alloc: Global, bytes: &[u8]) -> Result<Vec<Command>, ScriptFault>
-    requires few { length bytes.now ≤ 1048576 }
+    requires few { length bytes.now ≤ most_script_bytes }
     ensures { Answers (λ v. map command_of v.items) result (lines_read 1 [] (lines_of bytes.now)) }
 {
     let mut commands = Vec::new(alloc);

@@ -1,6 +1,7 @@
 -- The nodes of a content, opened step by step; where fewer stand before it, it gives the same.
 use Rattle.std.proofs.Common.{◌≡◌, ℕ, suc, ◌+◌, ◌≤◌, List, [], ◌∷◌, refl, sym, ap, arith, Bool, true, false, nat_lt, Result, Ok, Err, if◌then◌else◌}
 use Rattle.std.proofs.lemmas.Bool.Decides.{nat_tests}
+use Rattle.xt_spec.specs.Limit.{most_nodes}
 use Rattle.xt_spec.specs.Namespace.{NamedValue}
 use Rattle.xt_spec.specs.Content.{Content, nothing_given, element_content, text_content, comment_content, pi_content}
 use Rattle.xt_spec.specs.Reading.{document}
@@ -13,14 +14,14 @@ then_ok : {A B : Type 0} → (next : A → Result B Fault) (first : Result A Fau
 then_ok next (Ok a) b is = (a, refl, is)
 then_ok next (Err fault) b is = absurd (cc)
 
-room_ok : (file : List ℕ) (count : ℕ) (others : Result Nodes Fault) (nodes : Nodes) → with_room file count others ≡ Ok nodes → (nat_lt count 1000000 ≡ true) × (others ≡ Ok nodes)
-room_ok file count others nodes is = by (nat_lt count 1000000) refl is
+room_ok : (file : List ℕ) (count : ℕ) (others : Result Nodes Fault) (nodes : Nodes) → with_room file count others ≡ Ok nodes → (nat_lt count most_nodes ≡ true) × (others ≡ Ok nodes)
+room_ok file count others nodes is = by (nat_lt count most_nodes) refl is
   where
-    by : (less : Bool) → nat_lt count 1000000 ≡ less → (if less then others else Err (too_large file)) ≡ Ok nodes → (nat_lt count 1000000 ≡ true) × (others ≡ Ok nodes)
+    by : (less : Bool) → nat_lt count most_nodes ≡ less → (if less then others else Err (too_large file)) ≡ Ok nodes → (nat_lt count most_nodes ≡ true) × (others ≡ Ok nodes)
     by true less is = (less, is)
     by false less is = absurd (cc)
 
-has_room : (file : List ℕ) (count : ℕ) (others : Result Nodes Fault) → nat_lt count 1000000 ≡ true → with_room file count others ≡ others
+has_room : (file : List ℕ) (count : ℕ) (others : Result Nodes Fault) → nat_lt count most_nodes ≡ true → with_room file count others ≡ others
 has_room file count others less = rw less refl
 
 pub is_made : (made nodes : Nodes) → ◌≡◌ {A = Result Nodes Fault} (Ok made) (Ok nodes) → nodes ≡ made
@@ -33,7 +34,7 @@ pub record IsElementOf (file : List ℕ) (context : Context) (count : ℕ) (name
   pub inner : Nodes
   pub others : Nodes
   pub own : element_of file context name values ≡ Ok element
-  pub room : nat_lt count 1000000 ≡ true
+  pub room : nat_lt count most_nodes ≡ true
   pub within : nodes_of file element.context (suc count) kids ≡ Ok inner
   pub behind : nodes_of file context (suc count + node_count inner) rest ≡ Ok others
   pub are : nodes ≡ element_node element.head inner others
@@ -57,7 +58,7 @@ element_made file context count name values kids rest nodes is =
 -- others behind one node, which has room
 pub record IsBehind (file : List ℕ) (context : Context) (count : ℕ) (rest : Content) (front : Nodes → Nodes) (nodes : Nodes) : Type 0 where
   pub others : Nodes
-  pub room : nat_lt count 1000000 ≡ true
+  pub room : nat_lt count most_nodes ≡ true
   pub behind : nodes_of file context (suc count) rest ≡ Ok others
   pub are : nodes ≡ front others
 
@@ -98,7 +99,7 @@ pi_made file context count target inner rest nodes is = behind_made file context
 
 -- ---- fewer nodes before
 
-pub fewer_room : (k count : ℕ) → k ≤ count → nat_lt count 1000000 ≡ true → nat_lt k 1000000 ≡ true
+pub fewer_room : (k count : ℕ) → k ≤ count → nat_lt count most_nodes ≡ true → nat_lt k most_nodes ≡ true
 fewer_room k count less room = grind (arith, nat_tests)
 
 pub fewer_before : (file : List ℕ) (context : Context) (k count : ℕ) (content : Content) (nodes : Nodes) → k ≤ count → nodes_of file context count content ≡ Ok nodes → nodes_of file context k content ≡ Ok nodes

@@ -1,6 +1,7 @@
 -- After an accepted edit a document opens, with the text at the place set.
 use Rattle.std.proofs.Common.{◌≡◌, ◌∙◌, ℕ, ◌≤◌, List, length, sym, ap, subst, true, encode_utf8_all, Some}
 use Rattle.std.specs.List.{list_all}
+use Rattle.xt_spec.specs.Limit.{most_file_bytes}
 use Rattle.xt_spec.specs.Char.{is_char}
 use Rattle.xt_spec.specs.Tree.{Items, source_text}
 use Rattle.bk_spec.specs.Node.{Nodes}
@@ -28,7 +29,7 @@ accepted_changes_the_node file context count items others nodes place from to ne
 
 -- the edited items open
 edited_opens : (file bytes : List ℕ) (items : Items) (nodes : Nodes) (place : List ℕ) (from to : ℕ) (new path characters : List ℕ) → IsOpen file bytes items nodes → IsInText items place from to path characters → list_all is_char new ≡ true
-    → length (source_text (edited items path characters from to new)) ≤ 4194304
+    → length (source_text (edited items path characters from to new)) ≤ most_file_bytes
     → IsOpen file (source_text (edited items path characters from to new)) (edited items path characters from to new) (text_set nodes place (encode_utf8_all (range_replaced characters from to new)))
 edited_opens file bytes items nodes place from to new path characters opens inside are fits =
     let (text, is, has) = text_of_item inside.item characters inside.value in

@@ -4,6 +4,7 @@ use Rattle.std.proofs.lemmas.Bool.{cases_Bool, cases_lt}
 use Rattle.std.proofs.lemmas.Bool.Decides.{nat_tests}
 use Rattle.std.specs.List.{list_all}
 use Rattle.std.specs.Cmp.Lexicographic.{pointwise, bytes_decides}
+use Rattle.xt_spec.specs.Limit.{most_file_bytes}
 use Rattle.xt_spec.specs.Char.{is_char}
 use Rattle.xt_spec.specs.Tree.{Items, Item, element_item, leaf_item, text_item, reference_item, comment_item, pi_item, gap, source_text}
 use Rattle.xt_spec.specs.Reading.{document, IsOrdered}
@@ -47,7 +48,7 @@ verdict items from to new path item characters =
     if not (is_text item) then Some wrong_kind
     else (if nat_lt to from || nat_lt (length characters) to then Some bad_range
     else (if not (list_all is_char new) then Some bad_text
-    else (if nat_lt 4194304 (length (source_text (edited items path characters from to new))) then Some too_large else None)))
+    else (if nat_lt most_file_bytes (length (source_text (edited items path characters from to new))) then Some too_large else None)))
 
 -- the place leads to an item, and the tests end so; of an item that is no text the characters say nothing
 record EndsAs (items : Items) (place : List ℕ) (from to : ℕ) (new : List ℕ) (end : Option Refusal) : Type 0 where
@@ -93,7 +94,7 @@ not_more m n less = grind (arith, nat_tests)
 
 -- the tests of a text in which the range lies
 in_text : (items : Items) (place : List ℕ) (from to : ℕ) (new path characters : List ℕ) (end : Option Refusal) → (inside : IsInText items place from to path characters)
-    → (if not (list_all is_char new) then Some bad_text else (if nat_lt 4194304 (length (source_text (edited items path characters from to new))) then Some too_large else None)) ≡ end
+    → (if not (list_all is_char new) then Some bad_text else (if nat_lt most_file_bytes (length (source_text (edited items path characters from to new))) then Some too_large else None)) ≡ end
     → EndsAs items place from to new end
 in_text items place from to new path characters end inside is = record {
   path = path;
@@ -128,7 +129,7 @@ refusal_ends items _ _ _ _ _ (no_range place from to new path item characters at
 })
 refusal_ends items _ _ _ _ _ (no_char place from to new path characters inside none) = inr (in_text items place from to new path characters (Some bad_text) inside (rw none refl))
 refusal_ends items _ _ _ _ _ (no_room place from to new path characters inside are more) =
-    inr (in_text items place from to new path characters (Some too_large) inside (rw are (rw (more_than 4194304 (length (source_text (edited items path characters from to new))) more) refl)))
+    inr (in_text items place from to new path characters (Some too_large) inside (rw are (rw (more_than most_file_bytes (length (source_text (edited items path characters from to new))) more) refl)))
 
 -- the text of an accepted edit
 pub record IsAccepted (items : Items) (place : List ℕ) (from to : ℕ) (new : List ℕ) (others : Items) : Type 0 where
@@ -136,7 +137,7 @@ pub record IsAccepted (items : Items) (place : List ℕ) (from to : ℕ) (new : 
   pub characters : List ℕ
   pub inside : IsInText items place from to path characters
   pub are : list_all is_char new ≡ true
-  pub fits : length (source_text (edited items path characters from to new)) ≤ 4194304
+  pub fits : length (source_text (edited items path characters from to new)) ≤ most_file_bytes
   pub is : others ≡ edited items path characters from to new
 
 pub accepted_is : (items : Items) (place : List ℕ) (from to : ℕ) (new : List ℕ) (others : Items) → Accepts items (text_edit place from to new) others → IsAccepted items place from to new others
@@ -144,7 +145,7 @@ accepted_is items _ _ _ _ _ (accepted place from to new path characters inside a
 
 accepted_ends : (items : Items) (place : List ℕ) (from to : ℕ) (new : List ℕ) (others : Items) → IsAccepted items place from to new others → EndsAs items place from to new None
 accepted_ends items place from to new others a =
-    in_text items place from to new a.path a.characters None a.inside (rw a.are (rw (not_more 4194304 (length (source_text (edited items a.path a.characters from to new))) a.fits) refl))
+    in_text items place from to new a.path a.characters None a.inside (rw a.are (rw (not_more most_file_bytes (length (source_text (edited items a.path a.characters from to new))) a.fits) refl))
 
 -- ---- one outcome
 
@@ -201,7 +202,7 @@ text_outcome items place from to new path item characters at value = elim (cases
     in_range : IsInText items place from to path characters → (outcome : Outcome) × HasOutcome items (text_edit place from to new) outcome
     in_range inside = elim (cases_Bool (list_all is_char new)) [
       | inr none ↦ (refused bad_text, no_char place from to new path characters inside none)
-      | inl are ↦ elim (cases_lt 4194304 (length (source_text (edited items path characters from to new)))) [
+      | inl are ↦ elim (cases_lt most_file_bytes (length (source_text (edited items path characters from to new)))) [
         | inl more ↦ (refused too_large, no_room place from to new path characters inside are more)
         | inr fits ↦ (gives (edited items path characters from to new), accepted place from to new path characters inside are fits)
       ]

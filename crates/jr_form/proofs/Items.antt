@@ -7,9 +7,10 @@ use Rattle.std.specs.Cmp.Lexicographic.{pointwise, bytes_decides}
 use Rattle.std.proofs.lemmas.Bool.{eqb-true, leb-true, le-leb}
 use Rattle.std.proofs.lemmas.List.{append-nil, nil_from_length}
 use Rattle.std.proofs.lemmas.List.Concat.{flat_map-cons}
+use Rattle.xt_spec.specs.Limit.{most_file_bytes, most_saved_files}
 use Rattle.bk_name.specs.FileName.{is_file_name}
 use Rattle.jr_form.specs.declared.item.Item.{Item}
-use Rattle.jr_form.specs.Journal.{mark, name_field, entry, spelling, comes_after, Ascend, Fits, IsJournal}
+use Rattle.jr_form.specs.Journal.{most_journal_bytes, mark, name_field, entry, spelling, comes_after, Ascend, Fits, IsJournal}
 use Rattle.jr_form.specs.Reading.{◌>>=◌, bytes_at, number_at, name_at, file_at, item_at, items_at, mark_at, reading}
 use Rattle.jr_form.proofs.Fields.{IsBytes, bind_some, guard, some_is, Takes, Takes-then, wide16, wide32, number_takes, number_again, bytes_take, bytes_again}
 
@@ -45,18 +46,18 @@ name_again name rest is = ap name_at (append_assoc (to_be_bytes w16 (length name
 abbrev file_field : List ℕ → List ℕ
 file_field file = to_be_bytes w32 (length file) ++ file
 
-file_takes : (bytes file rest : List ℕ) → IsBytes bytes → file_at bytes ≡ Some (file, rest) → Takes bytes (file_field file) rest × (length file ≤ 4194304)
+file_takes : (bytes file rest : List ℕ) → IsBytes bytes → file_at bytes ≡ Some (file, rest) → Takes bytes (file_field file) rest × (length file ≤ most_file_bytes)
 unfolding file_at
 file_takes bytes file rest fits e =
-    let a = bind_some (number_at w32 bytes) (λ n. cond (leb n.0 4194304) (bytes_at n.0 n.1) None) (file, rest) e in
-    let g = guard (leb a.0.0 4194304) (bytes_at a.0.0 a.0.1) (file, rest) a.2 in
-    let small : a.0.0 ≤ 4194304 = leb-true _ _ g.0 in
+    let a = bind_some (number_at w32 bytes) (λ n. cond (leb n.0 most_file_bytes) (bytes_at n.0 n.1) None) (file, rest) e in
+    let g = guard (leb a.0.0 most_file_bytes) (bytes_at a.0.0 a.0.1) (file, rest) a.2 in
+    let small : a.0.0 ≤ most_file_bytes = leb-true _ _ g.0 in
     let t0 = number_takes w32 (2 ^ 32) wide32 bytes a.0.0 a.0.1 fits a.1 in
     let t1 = bytes_take a.0.0 a.0.1 file rest t0.0.rest_fits g.1 in
     let both = Takes-then bytes (to_be_bytes w32 a.0.0) a.0.1 file rest t0.0 t1.0 in
     (subst (λ (k : ℕ). Takes bytes (to_be_bytes w32 k ++ file) rest) (sym t1.1) both, omega (arith, small, t1.1))
 
-file_again : (file rest : List ℕ) → length file ≤ 4194304 → file_at (file_field file ++ rest) ≡ Some (file, rest)
+file_again : (file rest : List ℕ) → length file ≤ most_file_bytes → file_at (file_field file ++ rest) ≡ Some (file, rest)
 unfolding file_at
 file_again file rest le = ap file_at (append_assoc (to_be_bytes w32 (length file)) file rest) ∙ rw (number_again w32 (2 ^ 32) wide32 (length file) (file ++ rest) (omega (arith, le)), le-leb _ _ le, bytes_again file rest) refl
 
@@ -88,7 +89,7 @@ item_takes (suc zero ∷ bytes) x fits e =
     subst (λ (y : Item × List ℕ). Takes (1 ∷ bytes) (entry y.0) y.1 × Fits y.0) (some_is made x b.2) (whole, record { name = t0.1; bytes = t1.1 })
 item_takes (suc (suc b) ∷ bytes) x fits e = absurd cc
 
-item_again : (name : List ℕ) (file : Option (List ℕ)) (rest : List ℕ) → is_file_name name ≡ true → IfSome file (λ bytes. length bytes ≤ 4194304) → item_at (entry (record { name = name; bytes = file }) ++ rest) ≡ Some (record { name = name; bytes = file }, rest)
+item_again : (name : List ℕ) (file : Option (List ℕ)) (rest : List ℕ) → is_file_name name ≡ true → IfSome file (λ bytes. length bytes ≤ most_file_bytes) → item_at (entry (record { name = name; bytes = file }) ++ rest) ≡ Some (record { name = name; bytes = file }, rest)
 unfolding item_at
 item_again name None rest is fits =
     let regrouped : ((0 ∷ name_field name) ++ []) ++ rest ≡ 0 ∷ (name_field name ++ rest) = ap (λ (l : List ℕ). l ++ rest) (append-nil (0 ∷ name_field name)) in
@@ -137,22 +138,22 @@ mark_again rest = rw (bytes_again mark rest) refl
 pub reading_takes : (bytes : List ℕ) (items : List Item) → IsBytes bytes → reading bytes ≡ Some items → IsJournal items bytes
 unfolding reading
 reading_takes bytes items fits e =
-    let g = guard (leb (length bytes) 68450316) (mark_at bytes >>= λ front. number_at w32 front.1 >>= λ n. cond (leb 1 n.0 && leb n.0 5120) (items_at n.0 None n.1 >>= λ items. cond (eqb (length items.1) 0) (Some items.0) None) None) items e in
-    let a = bind_some (mark_at bytes) (λ front. number_at w32 front.1 >>= λ n. cond (leb 1 n.0 && leb n.0 5120) (items_at n.0 None n.1 >>= λ items. cond (eqb (length items.1) 0) (Some items.0) None) None) items g.1 in
-    let b = bind_some (number_at w32 a.0.1) (λ n. cond (leb 1 n.0 && leb n.0 5120) (items_at n.0 None n.1 >>= λ items. cond (eqb (length items.1) 0) (Some items.0) None) None) items a.2 in
-    let h = guard (leb 1 b.0.0 && leb b.0.0 5120) (items_at b.0.0 None b.0.1 >>= λ items. cond (eqb (length items.1) 0) (Some items.0) None) items b.2 in
+    let g = guard (leb (length bytes) most_journal_bytes) (mark_at bytes >>= λ front. number_at w32 front.1 >>= λ n. cond (leb 1 n.0 && leb n.0 most_saved_files) (items_at n.0 None n.1 >>= λ items. cond (eqb (length items.1) 0) (Some items.0) None) None) items e in
+    let a = bind_some (mark_at bytes) (λ front. number_at w32 front.1 >>= λ n. cond (leb 1 n.0 && leb n.0 most_saved_files) (items_at n.0 None n.1 >>= λ items. cond (eqb (length items.1) 0) (Some items.0) None) None) items g.1 in
+    let b = bind_some (number_at w32 a.0.1) (λ n. cond (leb 1 n.0 && leb n.0 most_saved_files) (items_at n.0 None n.1 >>= λ items. cond (eqb (length items.1) 0) (Some items.0) None) None) items a.2 in
+    let h = guard (leb 1 b.0.0 && leb b.0.0 most_saved_files) (items_at b.0.0 None b.0.1 >>= λ items. cond (eqb (length items.1) 0) (Some items.0) None) items b.2 in
     let d = bind_some (items_at b.0.0 None b.0.1) (λ items. cond (eqb (length items.1) 0) (Some items.0) None) items h.1 in
     let k = guard (eqb (length d.0.1) 0) (Some d.0.0) items d.2 in
     let range = both_hold _ _ h.0 in
     let low : 1 ≤ b.0.0 = leb-true _ _ range.0 in
-    let high : b.0.0 ≤ 5120 = leb-true _ _ range.1 in
+    let high : b.0.0 ≤ most_saved_files = leb-true _ _ range.1 in
     let t0 = mark_takes bytes a.0.0 a.0.1 fits a.1 in
     let t1 = number_takes w32 (2 ^ 32) wide32 a.0.1 b.0.0 b.0.1 t0.rest_fits b.1 in
     let t2 = items_take b.0.0 None b.0.1 d.0 t1.0.rest_fits d.1 in
     let nothing : d.0.1 ≡ [] = nil_from_length d.0.1 (eqb-true _ _ k.0) in
     let both = (Takes-then bytes (mark ++ to_be_bytes w32 b.0.0) b.0.1 (flat_map entry d.0.0) d.0.1 (Takes-then bytes mark a.0.1 (to_be_bytes w32 b.0.0) b.0.1 t0 t1.0) t2.0).parts in
     let whole : bytes ≡ spelling d.0.0 = both ∙ ap (λ (r : List ℕ). ((mark ++ to_be_bytes w32 b.0.0) ++ flat_map entry d.0.0) ++ r) nothing ∙ append-nil ((mark ++ to_be_bytes w32 b.0.0) ++ flat_map entry d.0.0) ∙ ap (λ (n : ℕ). (mark ++ to_be_bytes w32 n) ++ flat_map entry d.0.0) (sym t2.1) in
-    let cap : length bytes ≤ 68450316 = leb-true _ _ g.0 in
+    let cap : length bytes ≤ most_journal_bytes = leb-true _ _ g.0 in
     subst (λ (v : List Item). IsJournal v bytes) (some_is d.0.0 items k.1) record {
       items_fit = record { some = omega (arith, low, t2.1); count = omega (arith, high, t2.1); fit = t2.2; ascend = t2.3 };
       spelled = whole;

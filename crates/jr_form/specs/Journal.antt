@@ -8,13 +8,18 @@
 --   AreItems       a journal can hold these items
 --   IsJournal      these bytes are the journal of these items, and not longer than a journal that is read
 --   AreWritable    the items of a save: those whose journal is not too long to be read
-use Rattle.std.specs.Prelude.{◌≡◌, ℕ, ◌≤◌, ◌+◌, List, [], ◌∷◌, ◌++◌, length, codes, Bool, true, Option, Some, None, IfSome, IsTrue}
+use Rattle.std.specs.Prelude.{◌≡◌, ℕ, ◌≤◌, ◌+◌, ◌*◌, List, [], ◌∷◌, ◌++◌, length, codes, Bool, true, Option, Some, None, IfSome, IsTrue}
 use Rattle.std.specs.List.{flat_map, AllByRecursion}
 use Rattle.std.specs.Int.{w16, w32, to_be_bytes}
 use Rattle.std.specs.Ordering.{nat_cmp, is_lt}
 use Rattle.std.specs.Cmp.Lexicographic.{slice_cmp}
+use Rattle.xt_spec.specs.Limit.{most_file_bytes, most_saved_bytes, most_saved_files}
 use Rattle.bk_name.specs.FileName.{is_file_name}
 use Rattle.jr_form.specs.declared.item.Item.{Item}
+
+-- how long a journal is at most, in bytes: 12, with 5,120 times 262 for all but the files, and 67,108,864 for the files
+abbrev pub most_journal_bytes : ℕ
+most_journal_bytes = 12 + most_saved_files * 262 + most_saved_bytes
 
 -- what a journal begins with
 abbrev pub mark : List ℕ
@@ -64,7 +69,7 @@ IsNamed item = is_file_name item.name ≡ true
 
 -- a file has at most 4,194,304 bytes
 abbrev pub FileFits : Item → Type 0
-FileFits item = IfSome item.bytes (λ bytes. length bytes ≤ 4194304)
+FileFits item = IfSome item.bytes (λ bytes. length bytes ≤ most_file_bytes)
 
 pub record Fits (item : Item) : Type 0 where
   pub name : IsNamed item
@@ -73,7 +78,7 @@ pub record Fits (item : Item) : Type 0 where
 -- items that a journal can hold
 pub record AreItems (items : List Item) : Type 0 where
   pub some : 1 ≤ length items
-  pub count : length items ≤ 5120
+  pub count : length items ≤ most_saved_files
   pub fit : AllByRecursion Fits items
   pub ascend : Ascend None items
 
@@ -81,7 +86,7 @@ pub record AreItems (items : List Item) : Type 0 where
 pub record IsJournal (items : List Item) (bytes : List ℕ) : Type 0 where
   pub items_fit : AreItems items
   pub spelled : bytes ≡ spelling items
-  pub cap : length bytes ≤ 68450316
+  pub cap : length bytes ≤ most_journal_bytes
 
 -- how many bytes a file has; a removal has none
 abbrev pub file_size : Option (List ℕ) → ℕ
@@ -97,7 +102,7 @@ total_size (item ∷ items) = file_size item.bytes + total_size items
 -- and all files together of at most 67,108,864
 pub record AreWritable (items : List Item) : Type 0 where
   pub some : 1 ≤ length items
-  pub count : length items ≤ 5120
+  pub count : length items ≤ most_saved_files
   pub files : AllByRecursion FileFits items
   pub ascend : Ascend None items
-  pub total : total_size items ≤ 67108864
+  pub total : total_size items ≤ most_saved_bytes

@@ -6,11 +6,12 @@
 use Rattle.std.specs.Prelude.{◌≡◌, ℕ, zero, suc, List, [], ◌∷◌, length, take, drop, Option, Some, None, Result, Ok, Err, nat_lt, nat_le, nat_eq, ◌&&◌, if◌then◌else◌}
 use Rattle.std.specs.Int.{Width, w16, w32, byte_len, from_be_bytes}
 use Rattle.std.specs.Cmp.Lexicographic.{pointwise}
+use Rattle.xt_spec.specs.Limit.{most_file_bytes, most_saved_files}
 use Rattle.bk_name.specs.FileName.{is_file_name}
 use Rattle.jr_form.specs.declared.item.Item.{Item}
 use Rattle.jr_form.specs.declared.reading.Stop.{Stop}
 use Rattle.jr_form.specs.declared.reading.Stop.TheVariants.{NoReading, NoMemory}
-use Rattle.jr_form.specs.Journal.{mark, comes_after}
+use Rattle.jr_form.specs.Journal.{most_journal_bytes, mark, comes_after}
 
 infixl 10 ◌>>=◌
 abbrev pub ◌>>=◌ : {A B : Type 0} → Option A → (A → Option B) → Option B
@@ -43,7 +44,7 @@ name_at bytes = do
 unfoldable pub file_at : List ℕ → Option (List ℕ × List ℕ)
 file_at bytes = do
   n ← number_at w32 bytes
-  if nat_le n.0 4194304 then bytes_at n.0 n.1 else None
+  if nat_le n.0 most_file_bytes then bytes_at n.0 n.1 else None
 
 unfoldable pub item_at : List ℕ → Option (Item × List ℕ)
 item_at [] = None
@@ -70,4 +71,4 @@ mark_at bytes = do
 
 -- the items that all of the bytes spell
 unfoldable pub reading : List ℕ → Option (List Item)
-reading bytes = if nat_le (length bytes) 68450316 then (mark_at bytes >>= λ front. number_at w32 front.1 >>= λ n. if nat_le 1 n.0 && nat_le n.0 5120 then (items_at n.0 None n.1 >>= λ items. if nat_eq (length items.1) 0 then Some items.0 else None) else None) else None
+reading bytes = if nat_le (length bytes) most_journal_bytes then (mark_at bytes >>= λ front. number_at w32 front.1 >>= λ n. if nat_le 1 n.0 && nat_le n.0 most_saved_files then (items_at n.0 None n.1 >>= λ items. if nat_eq (length items.1) 0 then Some items.0 else None) else None) else None

@@ -1,4 +1,5 @@
 ghost use Rattle.std.specs.Prelude.{◌≡◌, ◌≤◌, ◌++◌, List, ℕ, length, IfOk, OnOk, Some};
+ghost use Rattle.xt_spec.specs.Limit.{most_file_bytes};
 ghost use Rattle.jr_form.specs.declared.item.Item.{Item};
 ghost use Rattle.jr_form.specs.Journal.{entry, content, FileFits, IsNamed, AreWritable, IsJournal};
 ghost use Rattle.jr_form.specs.Reading.{reading};
@@ -8,7 +9,7 @@ use crate::limits::MARK;
 use std::alloc::{AllocError, Global};
 
 fn put_file(out: &mut Vec<u8>, file: &[u8]) -> Result<(), AllocError>
-    requires fits { length file.now ≤ 4194304 }
+    requires fits { length file.now ≤ most_file_bytes }
     ensures value { OnOk result (out.new.items ≡ out.old.items ++ content (Some file.now)) }
 {
     let len = file.len() as u32;
