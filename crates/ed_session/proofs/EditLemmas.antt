@@ -6,7 +6,11 @@ use Rattle.xt_spec.specs.Char.{is_char}
 use Rattle.xt_spec.specs.Tree.{Item, element_item, leaf_item, text_item, reference_item, comment_item, pi_item, gap, Items, source_text}
 use Rattle.xt_spec.specs.Text.{IsTextItem, HasTextValue}
 use Rattle.xt_spec.specs.Reading.{document, IsReading}
-use Rattle.xt_read.proofs.Theorems.{one_tree}
+use Rattle.xt_read.proofs.Theorems.{one_tree, no_fault}
+use Rattle.xt_read.specs.declared.front.FileRole.TheVariants as file
+use Rattle.xt_read.specs.declared.unread.Unread.{Unread}
+use Rattle.xt_read.specs.declared.unread.Unread.TheVariants as unread
+use Rattle.xt_read.specs.Faults.{IsFaultOf}
 use Rattle.xt_spec.specs.Paths.{item_at}
 use Rattle.ed_spec.specs.TextEdit.{text_edited}
 use Rattle.ed_spec.specs.Edit as spec
@@ -101,6 +105,10 @@ is_edited edit old new bytes out items same opens is new_is = record {
 -- what is read again are the items that are known
 pub opens_read : (root bytes : List ℕ) (items again : Items) → Opens root bytes items → IsReading document bytes again → Opens root bytes again
 opens_read root bytes items again opens reading = subst (λ (is : Items). Opens root bytes is) (one_tree bytes items again opens.1.reading reading) opens
+
+-- what opens has no fault but want of memory
+pub no_fault_again : (root bytes : List ℕ) (items : Items) (fault : Unread) → Opens root bytes items → IsFaultOf file.Document bytes fault → (fault ≡ unread.NoMemory → ⊥) → ⊥
+no_fault_again root bytes items fault opens is other = other (no_fault file.Document bytes items fault opens.1.reading is)
 
 pub same_edit : (result : Result (Vec ℕ Global) EditFault) (bytes : List ℕ) (items : Items) (a b : Edit) → a ≡ b → IfOk result (λ out. (root : List ℕ) → Opens root bytes items → IsEditOf root items a out.items)
     → IfOk result (λ out. (root : List ℕ) → Opens root bytes items → IsEditOf root items b out.items)

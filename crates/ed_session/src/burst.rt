@@ -53,6 +53,9 @@ impl Session {
         ensures value { IfOk result (λ count. IsSaved self.old self.new count) }
         ensures durable { IsTrue D.tells → IfOk result (λ count. IsBurst self.old (D.standing desk.old) (D.standing desk.new) count) }
         ensures same { OnErr result (self.new ≡ self.old) }
+        // Where nothing differs the answer is 0, and no call of the desk is made.
+        ensures fault { OnErr result (self.old.bytes ≢ self.old.saved) }
+        ensures others { self.old.bytes ≡ self.old.saved → desk.new ≡ desk.old }
         ensures crash { IsTrue D.tells → AtEachCrash D.time D.was desk.old desk.new (MayCrashInBurst self.old (D.standing desk.old)) }
         ensures cause_desk { HasCause (D.faults desk.old) (D.faults desk.new) (IsErrOf result DeskErr.Failed) }
     {

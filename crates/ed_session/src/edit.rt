@@ -26,7 +26,7 @@ use std::alloc::{AllocError, Global};
 use std::mem;
 use std::sync::ledger::Ledger;
 use xt_lex::{Span, Steps, is_char};
-use xt_read::read_document;
+use xt_read::{Unread, read_document};
 use xt_tree::{Patch, Src, item_at, splice};
 use xt_value::text_value;
 
@@ -76,13 +76,14 @@ fn find_text(alloc: Global, bytes: &[u8], items: &[Src], place: &[u32]) -> Resul
     }
 }
 
-/// The value of a text item.
+/// The value of a text item, whose bytes are UTF-8: want of memory is the one error.
 fn value_of(alloc: Global, text: &[u8]) -> Result<String, AllocError>
-    ensures value { IsTextItem text.now → IfOk result (λ value. HasTextValue text.now (string_bytes value)) }
+    requires item { IsTextItem text.now }
+    ensures value { IfOk result (λ value. HasTextValue text.now (string_bytes value)) }
 {
     match std::str::from_utf8(text) {
         Ok(text) => text_value(alloc, text, false),
-        Err(_) => Err(AllocError),
+        Err(_) => unreachable!(),
     }
 }
 
@@ -125,20 +126,24 @@ fn with_patch(alloc: Global, bytes: &[u8], patch: &Patch) -> Result<Vec<u8>, Edi
     Ok(out)
 }
 
-/// The items of a document that opens: it has a reading, so want of memory is the one fault.
+/// The items of a document that opens: it has a reading, so want of memory is the one error.
 fn read_again<L: Ledger>(
     alloc: Global,
     bytes: &[u8],
     steps: &mut Steps<L>,
 ) -> Result<Items<Src>, AllocError>
     requires fits { length bytes.now ≤ MOST_BYTES }
+    requires opens { (root : List ℕ) × (items : SyntaxItems) × Opens root bytes.now items }
     ensures value { IfOk result (λ is. (root : List ℕ) (items : SyntaxItems) → Opens root bytes.now items → Opens root bytes.now (items_in bytes.now is)) }
     ensures place { IfOk result (λ items. AreInPlace bytes.now 0 (marks_of items) (length bytes.now)) }
     ensures count { steps.new ≡ steps.old + length bytes.now }
 {
     match read_document(alloc, bytes, steps) {
         Ok(items) => Ok(items),
-        Err(_) => Err(AllocError),
+        Err(unread) => match unread {
+            Unread::NoMemory => Err(AllocError),
+            _ => unreachable!(),
+        },
     }
 }
 

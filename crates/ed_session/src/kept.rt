@@ -1,14 +1,17 @@
 //! What a session keeps.
-ghost use Rattle.std.specs.Prelude.{◌≡◌, ℕ, List, Some, None, IfOk, length};
+ghost use Rattle.std.specs.Prelude.{◌≡◌, ℕ, List, [], Some, None, IfOk, length};
+ghost use Rattle.bk_spec.specs.NodePaths.{node_paths};
 ghost use Rattle.bk_spec.specs.Opening.{IsOpen};
 ghost use Rattle.xt_tree.specs.Meaning.{items_in};
 ghost use Rattle.xt_tree.specs.Places.{marks_of, AreInPlace};
 ghost use Rattle.bk_info.specs.Nodes.{nodes_in};
+ghost use Rattle.bk_info.specs.Paths.{paths_in};
+ghost use Rattle.bk_info.specs.Vias.{HaveVia};
 ghost use Rattle.ed_session.specs.Kept.{Opens};
 
 use bk_info::Node;
 use bk_name::Name;
-use ent_doc::{Opened, document_nodes};
+use ent_doc::{OpenFault, Opened, document_nodes};
 use sqlite_items::Items;
 use std::alloc::{AllocError, Global};
 use std::marker::Model;
@@ -39,7 +42,7 @@ impl Model for Session {
     ghost invariant = { λ s. IsOpenRoot s.root s.bytes.items s.items s.nodes s.saved };
 }
 
-/// The nodes of a document that opens: it has no fault, so memory is wanting where they aren't made.
+/// The nodes of a document that opens: it has no fault, so want of memory is the one error.
 fn nodes_again(
     alloc: Global,
     root: &Name,
@@ -49,13 +52,16 @@ fn nodes_again(
     requires opens { Opens root.now bytes.now (items_in bytes.now items.now) }
     requires place { AreInPlace bytes.now 0 (marks_of items.now) (length bytes.now) }
     ensures value { IfOk result (λ nodes. IsOpen root.now bytes.now (items_in bytes.now items.now) (nodes_in nodes)) }
+    ensures paths { IfOk result (λ nodes. paths_in nodes ≡ node_paths [] 0 (items_in bytes.now items.now)) }
+    ensures via { IfOk result (HaveVia []) }
 {
     let Ok(text) = text_of(bytes) else {
-        return Err(AllocError);
+        unreachable!();
     };
     match document_nodes(alloc, root, text, items) {
         Ok(nodes) => Ok(nodes),
-        Err(_) => Err(AllocError),
+        Err(OpenFault::NoMemory) => Err(AllocError),
+        Err(OpenFault::Book(_)) => unreachable!(),
     }
 }
 
@@ -82,9 +88,12 @@ impl Session {
         self.items.as_slice()
     }
 
-    /// The items and the nodes of the bytes as edited. The nodes are made anew where an edit came since the start.
+    /// The items and the nodes of the bytes as edited, each node with the path of its item, and through no reference. The
+    /// nodes are made anew where an edit came since the start. The one error is want of memory.
     pub fn into_opened(self) -> Result<Opened, AllocError>
         ensures value { IfOk result (λ opened. IsOpen self.root self.bytes (items_in self.bytes opened.items) (nodes_in opened.nodes)) }
+        ensures paths { IfOk result (λ opened. paths_in opened.nodes ≡ node_paths [] 0 (items_in self.bytes opened.items)) }
+        ensures via { IfOk result (λ opened. HaveVia [] opened.nodes) }
     {
         let alloc = *self.bytes.allocator();
         let Session {

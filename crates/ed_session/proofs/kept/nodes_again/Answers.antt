@@ -1,8 +1,15 @@
-use Rattle.bk_info.specs.Nodes.{nodes_in}
-use Rattle.ed_session.proofs.KeptLemmas.{opens_with}
+use Rattle.std.proofs.Common.{sym}
+use Rattle.ed_session.proofs.KeptLemmas.{made_of, no_fault_of_nodes, open_utf8}
 use Rattle.ed_session.proofs.kept.nodes_again.Goals as goal
 
+pub unreachable-requires : goal.unreachable-requires
+unreachable-requires c = c.in_default.ensures.0 (open_utf8 c.args.root.now c.args.bytes.now _ c.requires.opens)
+
+pub unreachable-requires-in-Err-Book : goal.unreachable-requires-in-Err-Book
+unreachable-requires-in-Err-Book c = no_fault_of_nodes c.args.root.now c.in-Ok.text.now c.args.bytes.now c.args.items.now c.in-Err-Book.field-0 _ c.in-Err-Book.field-0-is c.in-Ok.ensures.0 c.requires.opens c.in-Err-Book.ensures.fault
+
 pub returns-in-Ok-document_nodes : goal.returns-in-Ok-document_nodes
-returns-in-Ok-document_nodes c = record {
-  value = opens_with c.args.root.now c.in-Ok.text.now c.args.bytes.now c.args.items.now (nodes_in c.in-Ok-document_nodes.nodes) c.in-Ok.ensures.0 c.requires.opens c.in-Ok-document_nodes.ensures.value;
-}
+returns-in-Ok-document_nodes c =
+    let nodes = c.in-Ok-document_nodes.nodes in
+    let made = made_of c.args.root.now c.in-Ok.text.now c.args.bytes.now c.args.items.now nodes c.in-Ok.ensures.0 c.requires.opens c.in-Ok-document_nodes.ensures.value c.in-Ok-document_nodes.ensures.paths c.in-Ok-document_nodes.ensures.via in
+    record { value = made.opens; paths = made.paths; via = made.via }

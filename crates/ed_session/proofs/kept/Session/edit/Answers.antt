@@ -12,6 +12,14 @@ edited_by-requires-clause-current g c = (
   same_opens c.self.inside.root c.self.inside.root c.as_slice.result.now c.self.inside.bytes.items c.as_slice-2.result.now c.self.inside.items refl c.as_slice.ensures.value c.as_slice-2.ensures c.self.invariant.opens,
 )
 
+pub read_again-requires-clause-opens : goal.read_again-requires-clause-opens
+read_again-requires-clause-opens g c =
+    let root = c.self.inside.root in
+    let opens =
+    same_opens root root c.as_slice.result.now c.self.inside.bytes.items c.as_slice-2.result.now c.self.inside.items refl c.as_slice.ensures.value c.as_slice-2.ensures c.self.invariant.opens in
+    let edit = c.in_ok-bytes.ensures.value root opens in
+    (root, edit.others, subst (λ (l : List ℕ). Opens root l edit.others) (sym c.as_slice-3.ensures.value) edit.opens)
+
 pub replace-requires-clause-current : goal.replace-requires-clause-current
 replace-requires-clause-current g c =
     let root = c.args.self.now.root in
