@@ -15,10 +15,11 @@ import urls
 from model import GATE, JOURNAL, Fault, want
 
 ROOT = "book.xml"
-CALLS = "openat,open,creat,write,writev,pwrite64,fsync,fdatasync,sync,syncfs,unlink,unlinkat,mkdir,mkdirat,rename,renameat,renameat2,ftruncate,truncate,link,linkat,symlink,symlinkat,rmdir"
+CALLS = "openat,open,creat,write,writev,pwrite64,fsync,fdatasync,sync,syncfs,flock,fchmod,unlink,unlinkat,mkdir,mkdirat,rename,renameat,renameat2,ftruncate,truncate,link,linkat,symlink,symlinkat,rmdir"
 READS = "read,pread64,lseek,close,newfstatat,fstat,statx"
 NOT_LOADED = 127  # the status of the loader, where it could not read the C library
 PARTS = "abcXYZ019-._~" + "é中 "
+NEW = b".burst-new"  # what the name of a file begins with that is to take another's place
 
 
 # What is saved and what is recovered
@@ -50,6 +51,10 @@ def some_names(rng, count):
     return names
 
 
+def is_new(name):
+    return os.path.basename(name).startswith(NEW)
+
+
 class Case:
     """A folder, a script, the files that are written or removed, and the books that the next run may find, by the number of
     saves that were made: after a recovery there is one."""
@@ -58,8 +63,8 @@ class Case:
         self.files, self.script, self.touched, self.books = files, script, set(touched), books
 
     def others(self, files):
-        """Those of some files that are neither written nor removed."""
-        return {name: content for name, content in model.book_of(files).items() if name not in self.touched}
+        """Those of some files that are neither written nor removed, nor new ones that had not yet their names."""
+        return {name: content for name, content in model.book_of(files).items() if name not in self.touched and not is_new(name)}
 
 
 def save_case(rng, most):
@@ -250,13 +255,19 @@ class Disk:
 
     def __init__(self, files):
         self.now = dict(files)
-        self.file_synced, self.entry_synced, self.new_folders = {}, {}, set()
+        self.file_synced, self.entry_synced, self.new_folders, self.renamed = {}, {}, set(), set()
 
     def does(self, what, name, content):
         """A call of the run; `content` is what it writes."""
         if what == "write":
             self.now[name] = content
             self.file_synced[name], self.entry_synced[name] = False, False
+            self.renamed.discard(name)
+        elif what == "rename":
+            self.now[name] = self.now.pop(content)
+            self.file_synced[name], self.entry_synced[name] = self.file_synced[content], False
+            self.file_synced[content], self.entry_synced[content] = True, False
+            self.renamed.add(name)
         elif what == "remove":
             self.now.pop(name, None)
             self.file_synced[name], self.entry_synced[name] = True, False
@@ -274,8 +285,14 @@ class Disk:
         self.new_folders = {folder for folder in self.new_folders if os.path.dirname(folder) != path}
 
     def is_pending(self, name):
-        below = any(name.startswith(folder + b"/") for folder in self.new_folders)
-        return below or not (self.file_synced[name] and self.entry_synced[name])
+        return self.is_below_new(name) or not (self.file_synced[name] and self.entry_synced[name])
+
+    def is_below_new(self, name):
+        return any(name.startswith(folder + b"/") for folder in self.new_folders)
+
+    def is_old_or_new(self, name):
+        """Whether a pending file was synced and then renamed, so that a power cut leaves the old file of this name, or all of the new one."""
+        return name in self.renamed and self.file_synced[name] and not self.is_below_new(name)
 
     def pending(self):
         return [name for name in self.file_synced if self.is_pending(name)]
@@ -285,32 +302,34 @@ class Disk:
 
 
 def paths_of(lines):
-    """The calls that changed or synced something, in order: what, and the name from the folder."""
+    """The calls that changed or synced something, in order: what, and the path; of a rename both, the new one first."""
     opened, found = {}, []
     for line in lines:
         call = CALL.match(line)
         if not call or call.group(3) in ("?", "-1") or call.group(3).startswith("-"):
             continue
         name, args, answer = call.groups()
-        text = re.search(r'"((?:[^"\\]|\\.)*)"', args)
-        path = os.fsencode(text.group(1).encode().decode("unicode_escape").encode("latin-1").decode()) if text else None
+        paths = [os.fsencode(text.encode().decode("unicode_escape").encode("latin-1").decode()) for text in re.findall(r'"((?:[^"\\]|\\.)*)"', args)]
+        path = paths[0] if paths else None
         if name in ("openat", "open", "creat"):
             opened[answer] = path
             if "O_TRUNC" in args or "O_CREAT" in args:
-                found.append(("write", path))
+                found.append(("write", path, None))
         elif name in ("write", "pwrite64", "writev", "ftruncate"):
             number = args.split(",")[0].split("<")[0]
             if number == "1":
-                found.append(("tell", None))
+                found.append(("tell", None, None))
             elif number != "2":
-                found.append(("write", opened[number]))
+                found.append(("write", opened[number], None))
         elif name in ("fsync", "fdatasync"):
-            found.append(("sync", opened[args.split("<")[0]]))
+            found.append(("sync", opened[args.split("<")[0]], None))
         elif name in ("unlink", "unlinkat"):
-            found.append(("remove", path))
+            found.append(("remove", path, None))
         elif name in ("mkdir", "mkdirat"):
-            found.append(("folder", path))
-        elif name in ("rename", "renameat", "renameat2", "link", "linkat", "symlink", "symlinkat", "truncate", "rmdir", "sync", "syncfs"):
+            found.append(("folder", path, None))
+        elif name in ("rename", "renameat", "renameat2"):
+            found.append(("rename", paths[1], paths[0]))
+        elif name in ("link", "linkat", "symlink", "symlinkat", "truncate", "rmdir", "sync", "syncfs"):
             raise Fault(f"the model of the disk has no {name}")
     return found
 
@@ -332,11 +351,11 @@ def cut_round(rng, home, program):
     counts = collections.Counter()
     disk, tells = Disk(case.files), 0
     durable, pending = dict(case.files), []
-    for what, path in paths_of(lines):
+    for what, path, before in paths_of(lines):
         name = in_folder(path) if path is not None else None
         tells += what == "tell"
         saves = min(tells // 2, len(case.books) - 1)
-        disk.does(what, name, written(case, saves, name))
+        disk.does(what, name, in_folder(before) if before is not None else written(case, saves, name))
         pending = disk.pending()
         for one in disk.settled():
             durable.pop(one, None)
@@ -352,6 +371,8 @@ def written(case, saves, name):
     """What a run writes into a file after so many saves."""
     if name == GATE.encode():
         return b"OPEN"
+    if name is not None and is_new(name):
+        name = os.path.join(os.path.dirname(name), os.path.basename(name)[len(NEW) + 1 :])
     book = case.books[min(saves + 1, len(case.books) - 1)]
     if name == JOURNAL.encode():
         return model.journal_of([(ROOT.encode(), book[ROOT.encode()])])
@@ -362,8 +383,9 @@ def after_cut(rng, case, folder, durable, disk, pending, saves, program, counts)
     """One thing that a power cut may leave, and the next run over it."""
     files = {name: content for name, content in durable.items() if name not in pending}
     for name in pending:
-        ways = [None, durable.get(name), disk.now.get(name), (disk.now.get(name) or b"x")[:-1], bytes(rng.randrange(256) for _ in range(5))]
-        content = rng.choice(ways)
+        old_or_new = [durable.get(name), disk.now.get(name)]
+        spoiled = [None, (disk.now.get(name) or b"x")[:-1], bytes(rng.randrange(256) for _ in range(5))]
+        content = rng.choice(old_or_new if disk.is_old_or_new(name) else old_or_new + spoiled)
         if content is not None:
             files[name] = content
     model.put_files_anew(folder, files)

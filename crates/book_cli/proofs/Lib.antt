@@ -8,3 +8,4 @@ pub mod InputLemmas
 pub mod EndLemmas
 pub mod Examples
 pub mod RunExamples
+pub mod NewNameLemmas

@@ -8,6 +8,7 @@ mod journals;
 mod limits;
 mod real_files;
 mod scripts;
+mod shared_folder;
 mod stops;
 mod trees;
 mod words;

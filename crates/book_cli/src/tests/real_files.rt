@@ -7,7 +7,7 @@ use std::io;
 use std::test::Fail;
 
 /// Whether a read gives these bytes.
-fn reads<D: Desk>(
+pub(super) fn reads<D: Desk>(
     desk: &mut D,
     name: &DeskName,
     cap: usize,
@@ -54,7 +54,7 @@ fn told_of(rt: &HostRuntime, word: &str, script: &str) -> Result<(u8, Vec<u8>), 
     Ok((status, told))
 }
 
-// A second run finds what the first one saved, and no open marker.
+// A second run finds what the first one saved, and no open marker. The desk beside them syncs, and locks, only at the end.
 #[test]
 fn a_run_saves_a_real_file(rt: HostRuntime) -> Result<(), Fail> {
     let alloc = rt.alloc();
@@ -71,7 +71,6 @@ fn a_run_saves_a_real_file(rt: HostRuntime) -> Result<(), Fail> {
         ("", ""),
     ] {
         desk.write_file(&commands, script.as_bytes())?;
-        desk.sync()?;
         let (status, told) = told_of(&rt, word, "real-run-test.txt")?;
         assert_eq!(rt; status, 0, "at {script}");
         assert!(rt; told == joined(alloc, &[replies, tree])?, "at {script}");
