@@ -1,5 +1,6 @@
 //! A command is carried out over a session and a disk.
 ghost use Rattle.std.specs.Prelude.{◌≡◌, ◌≤◌, ◌+◌, IsTrue, IfOk, OnOk, IsErrOf};
+ghost use Rattle.xt_spec.specs.Limit.{most_file_bytes};
 ghost use Rattle.bk_desk.specs.Disk.{DiskState};
 ghost use Rattle.bk_desk.specs.CrashPoints.{AtEachCrash};
 ghost use Rattle.bk_desk.specs.Cause.{HasCause};
@@ -22,7 +23,7 @@ use xt_lex::Steps;
 fn make_edit<L: Ledger>(session: &mut Session, op: &Op, steps: &mut Steps<L>) -> Result<Reply, Stop>
     ensures value { (s : model.Session) (disk : DiskState) → Stands session.old disk s → IfOk result (λ reply. IsDone session.old.root s (model.edit (edit_of op.now)) (reply_of reply) session.new disk) }
     ensures fault { IsErrOf result Stop.Fault → ⊥ }
-    ensures count { (steps.old ≤ steps.new) × (steps.new ≤ steps.old + 4194304) }
+    ensures count { (steps.old ≤ steps.new) × (steps.new ≤ steps.old + most_file_bytes) }
 {
     match session.edit(op, steps) {
         Ok(()) => Ok(Reply::Done),
@@ -59,7 +60,7 @@ pub(crate) fn perform<D: Desk, L: Ledger>(
     ensures same { IsTrue D.tells → (D.standing desk.new).told ≡ (D.standing desk.old).told }
     ensures crash { IsTrue D.tells → AtEachCrash D.time D.was desk.old desk.new (MayCrashIn command.now session.old (D.standing desk.old)) }
     ensures cause_desk { HasCause (D.faults desk.old) (D.faults desk.new) (IsErrOf result Stop.Fault) }
-    ensures count { (steps.old ≤ steps.new) × (steps.new ≤ steps.old + 4194304) }
+    ensures count { (steps.old ≤ steps.new) × (steps.new ≤ steps.old + most_file_bytes) }
 {
     match command {
         Command::Edit(op) => make_edit(session, op, steps),

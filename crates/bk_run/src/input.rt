@@ -1,5 +1,6 @@
 //! The bytes of a script, from a source to its end.
 ghost use Rattle.std.specs.Prelude.{◌≡◌, ◌≤◌, ◌<◌, ◌+◌, ◌++◌, ℕ, List, [], Some, true, false, length, take, IfOk, IsErrOf};
+ghost use Rattle.xt_spec.specs.Limit.{most_script_bytes};
 ghost use Rattle.bk_desk.specs.Cause.{HasCause};
 ghost use Rattle.bk_run.specs.Input.{IsMore, IsInput};
 
@@ -46,10 +47,10 @@ fn read_piece<S: Source>(source: &mut S, buffer: &mut [u8]) -> Result<usize, Inp
 
 /// Adds the next bytes; whether there were any.
 fn read_more<S: Source>(source: &mut S, bytes: &mut Vec<u8>) -> Result<bool, InputFault>
-    requires room { length bytes.old.items < MOST_READ }
+    requires room { length bytes.old.items < most_script_bytes + 1 }
     ensures value { (left : List ℕ) → S.left source.old ≡ Some left → IfOk result (λ more. (front : List ℕ) × IsMore left (S.left source.new) front × (bytes.new.items ≡ bytes.old.items ++ front)) }
     ensures some { IfOk result (λ more. (more ≡ true → length bytes.old.items < length bytes.new.items) × (more ≡ false → bytes.new.items ≡ bytes.old.items)) }
-    ensures fits { length bytes.new.items ≤ MOST_READ }
+    ensures fits { length bytes.new.items ≤ most_script_bytes + 1 }
     ensures cause { HasCause (S.faults source.old) (S.faults source.new) (IsErrOf result InputFault.Source) }
 {
     let mut buffer = [0; PIECE];
@@ -61,7 +62,7 @@ fn read_more<S: Source>(source: &mut S, bytes: &mut Vec<u8>) -> Result<bool, Inp
 
 /// The bytes that a source has left, to its end, or as many as 1,048,577 of them.
 pub fn read_input<S: Source>(alloc: Global, source: &mut S) -> Result<Vec<u8>, InputFault>
-    ensures value { (left : List ℕ) → S.left source.old ≡ Some left → IfOk result (λ bytes. IsInput MOST_READ left (S.left source.new) bytes.items) }
+    ensures value { (left : List ℕ) → S.left source.old ≡ Some left → IfOk result (λ bytes. IsInput (most_script_bytes + 1) left (S.left source.new) bytes.items) }
     ensures cause { HasCause (S.faults source.old) (S.faults source.new) (IsErrOf result InputFault.Source) }
 {
     let mut bytes = Vec::new(alloc);

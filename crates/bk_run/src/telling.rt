@@ -1,5 +1,6 @@
 //! Commands are carried out one after the other, and the reply to each is told.
 ghost use Rattle.std.specs.Prelude.{◌≡◌, ◌≤◌, ◌+◌, ◌*◌, ◌++◌, ℕ, List, IsTrue, IfOk, OnOk, IsErrOf, take, map, length};
+ghost use Rattle.xt_spec.specs.Limit.{most_file_bytes};
 ghost use Rattle.bk_desk.specs.Disk.{Tells, TellsPrefix, WhileTelling};
 ghost use Rattle.bk_desk.specs.CrashPoints.{AtEachCrash};
 ghost use Rattle.bk_desk.specs.Cause.{HasCause};
@@ -49,7 +50,7 @@ fn answer<D: Desk, L: Ledger>(
     ensures crash { IsTrue D.tells → (s next : model.Session) (reply : model.Reply) → Stands session.old (D.standing desk.old) s → model.Does session.old.root s (asked_of command.now) reply next
         → AtEachCrash D.time D.was desk.old desk.new (MayStop (D.standing desk.old) s.saved next.saved reply) }
     ensures cause_desk { HasCause (D.faults desk.old) (D.faults desk.new) (IsErrOf result Stop.Fault) }
-    ensures count { (steps.old ≤ steps.new) × (steps.new ≤ steps.old + 4194304) }
+    ensures count { (steps.old ≤ steps.new) × (steps.new ≤ steps.old + most_file_bytes) }
 {
     let reply = perform(session, command, desk, steps)?;
     tell_reply(alloc, reply, desk)?;
@@ -78,7 +79,7 @@ pub fn tell_replies<D: Desk, L: Ledger>(
         → AreCommandsOf (map command_of commands.now) asked → model.DoesAll session.old.root s asked replies last
         → AtEachCrash D.time D.was desk.old desk.new (IsOfOneBurst (D.standing desk.old) s.saved replies more) }
     ensures cause_desk { HasCause (D.faults desk.old) (D.faults desk.new) (IsErrOf result Stop.Fault) }
-    ensures count { (steps.old ≤ steps.new) × (steps.new ≤ steps.old + length commands.now * 4194304) }
+    ensures count { (steps.old ≤ steps.new) × (steps.new ≤ steps.old + length commands.now * most_file_bytes) }
 {
     let mut refused = false;
     for command in commands {

@@ -4,5 +4,6 @@ pub mod IncludeKind
 pub mod Fault
 pub mod DocumentNodes
 pub mod Opening
+pub mod FirstFault
 pub mod Infoset
 pub mod NodePaths

@@ -4,9 +4,11 @@ use Rattle.std.specs.Prelude.{if◌then◌else◌}
 use Rattle.std.specs.Str.{chars}
 use Rattle.std.specs.Fmt.{decimal}
 use Rattle.std.proofs.lemmas.Bool.{cases_Bool, ltb-true, ltb-false}
+use Rattle.xt_spec.specs.Limit.{most_commands, most_file_bytes, most_script_bytes}
 use Rattle.xt_spec.specs.Tree.{Items}
 use Rattle.bk_spec.specs.Fault.{Fault, missing, too_large, fault_line}
-use Rattle.ed_session.specs.Start.{IsRootFault, absent, longer, faulty}
+use Rattle.bk_spec.specs.FirstFault.{IsRootFault, absent, longer, faulty}
+use Rattle.ent_doc.proofs.Theorems.{OpensOrFails, opens_or_fails}
 use Rattle.ed_spec.specs.Book.{Book, Opens}
 use Rattle.ed_spec.specs.Edit.{text_edit}
 use Rattle.ed_spec.specs.Session.{Command, Step, edit, burst}
@@ -21,7 +23,7 @@ use Rattle.jr_burst.specs.SavedFiles.{recovered_files}
 use Rattle.bk_run.specs.Replies.{IsCommandOf, AreCommandsOf, replies_text, any_refused}
 use Rattle.bk_run.proofs.RunLemmas.{opened_runs}
 use Rattle.book_cli.specs.Words.{root_of}
-use Rattle.book_cli.specs.Output.{usage_line, journal_line, IsScriptLine, status_after, IsRun, closed, ran, ScriptOutput, no_script, damaged, recovered, RootOutput, IsOutput, OpensOrFails}
+use Rattle.book_cli.specs.Output.{usage_line, journal_line, IsScriptLine, status_after, IsRun, closed, ran, ScriptOutput, no_script, damaged, recovered, RootOutput, IsOutput}
 use Rattle.book_cli.specs.Leaves.{RecoveredBook}
 use Rattle.book_cli.proofs.OutputLemmas.{tree_exists}
 
@@ -63,7 +65,7 @@ added_never_out : (found : Option (Option script.Command)) (number : ℕ) (front
 added_never_out None number front is = absurd (cc)
 added_never_out (Some None) number front is = absurd (cc)
 added_never_out (Some (Some command)) number front is =
-    elim (cases_Bool (ltb (length front) 4096)) [
+    elim (cases_Bool (ltb (length front) most_commands)) [
       | inl lt ↦ let bad : ◌≡◌ {A = Outcome} (Ok (front ++ command ∷ [])) (Err NoMemory) = rw lt at is in absurd (cc)
       | inr ge ↦ let bad : ◌≡◌ {A = Outcome} (Err Many) (Err NoMemory) = rw ge at is in absurd (cc)
     ]
@@ -84,7 +86,7 @@ never_out number front (line ∷ lines) is =
 script_never_out : (bytes : List ℕ) → script_read bytes ≡ Err NoMemory → ⊥
 unfolding script_read
 script_never_out bytes is =
-    elim (cases_Bool (ltb 1048576 (length bytes))) [
+    elim (cases_Bool (ltb most_script_bytes (length bytes))) [
       | inl long ↦ let bad : ◌≡◌ {A = Outcome} (Err Long) (Err NoMemory) = rw long at is in absurd (cc)
       | inr short ↦ never_out 1 [] (lines_of bytes) (rw short at is)
     ]
@@ -133,11 +135,10 @@ closed_output : (root bytes : List ℕ) (files : DiskImage) (commands : List scr
     → (status : ℕ) × (text : List ℕ) × ScriptOutput root bytes files status text
 closed_output root bytes files commands book fault reads found cause = (3, fault_line fault, recovered commands book reads found ([], fault_line fault, closed fault cause refl refl refl, refl))
 
-book_output : (root bytes : List ℕ) (files : DiskImage) (commands : List script.Command) (book : Book) → IsScript bytes commands → recovered_files files ≡ Some book
-    → ((file : List ℕ) → book root ≡ Some file → length file ≤ 4194304 → OpensOrFails root file) → (status : ℕ) × (text : List ℕ) × ScriptOutput root bytes files status text
-book_output root bytes files commands book reads found told = by (book root) refl
+book_output : (root bytes : List ℕ) (files : DiskImage) (commands : List script.Command) (book : Book) → IsScript bytes commands → recovered_files files ≡ Some book → (status : ℕ) × (text : List ℕ) × ScriptOutput root bytes files status text
+book_output root bytes files commands book reads found = by (book root) refl
   where
-    judged : (file : List ℕ) → book root ≡ Some file → length file ≤ 4194304 → OpensOrFails root file → (status : ℕ) × (text : List ℕ) × ScriptOutput root bytes files status text
+    judged : (file : List ℕ) → book root ≡ Some file → length file ≤ most_file_bytes → OpensOrFails root file → (status : ℕ) × (text : List ℕ) × ScriptOutput root bytes files status text
     judged file there fits (inl (items, nodes, opens)) =
         let (status, text, ends, gives) = open_output root bytes files commands book file items reads found record { found = there; nodes = nodes; opens = opens } in
         (status, text, gives)
@@ -146,19 +147,17 @@ book_output root bytes files commands book reads found told = by (book root) ref
     by : (at : Option (List ℕ)) → book root ≡ at → (status : ℕ) × (text : List ℕ) × ScriptOutput root bytes files status text
     by None there = closed_output root bytes files commands book (missing root) reads found (absent there refl)
     by (Some file) there =
-        elim (cases_Bool (ltb 4194304 (length file))) [
+        elim (cases_Bool (ltb most_file_bytes (length file))) [
           | inl more ↦ closed_output root bytes files commands book (too_large root) reads found (longer file there (ltb-true _ _ more) refl)
-          | inr fits ↦ judged file there (ltb-false _ _ fits) (told file there (ltb-false _ _ fits))
+          | inr fits ↦ judged file there (ltb-false _ _ fits) (opens_or_fails root file (ltb-false _ _ fits))
         ]
 
-script_output : (root bytes : List ℕ) (files : DiskImage) → ((of : RecoveredBook (Some root) bytes files) (file : List ℕ) → of.book of.name ≡ Some file → length file ≤ 4194304 → OpensOrFails of.name file)
-    → (status : ℕ) × (text : List ℕ) × ScriptOutput root bytes files status text
-script_output root bytes files told = by (script_read bytes) refl
+script_output : (root bytes : List ℕ) (files : DiskImage) → (status : ℕ) × (text : List ℕ) × ScriptOutput root bytes files status text
+script_output root bytes files = by (script_read bytes) refl
   where
     over : (commands : List script.Command) → IsScript bytes commands → (at : Option Book) → recovered_files files ≡ at → (status : ℕ) × (text : List ℕ) × ScriptOutput root bytes files status text
     over commands reads None none = (8, journal_line, damaged commands reads none refl refl)
-    over commands reads (Some book) found =
-        book_output root bytes files commands book reads found (told record { name = root; commands = commands; book = book; named = refl; reads = reads; found = found })
+    over commands reads (Some book) found = book_output root bytes files commands book reads found
 
     by : (read : Outcome) → script_read bytes ≡ read → (status : ℕ) × (text : List ℕ) × ScriptOutput root bytes files status text
     by (Ok commands) is = over commands (script_takes bytes commands is) (recovered_files files) refl
@@ -166,12 +165,10 @@ script_output root bytes files told = by (script_read bytes) refl
         let (text, line) = line_exists fault (λ out. script_never_out bytes (is ∙ ap (λ (f : ScriptFault). Err f) out)) in
         (4, text, no_script fault (fault_takes bytes fault is) line refl)
 
--- where the root of a book that is recovered opens or has a first fault, there is an output
-pub output_exists : (words : List (List ℕ)) (bytes : List ℕ) (files : DiskImage) → ((of : RecoveredBook (root_of words) bytes files) (file : List ℕ) → of.book of.name ≡ Some file → length file ≤ 4194304 → OpensOrFails of.name file)
-    → (status : ℕ) × (text : List ℕ) × IsOutput words bytes files status text
+-- there is an output, whatever words, script and files are
+pub output_exists : (words : List (List ℕ)) (bytes : List ℕ) (files : DiskImage) → (status : ℕ) × (text : List ℕ) × IsOutput words bytes files status text
 output_exists words bytes files = by (root_of words)
   where
-    by : (root : Option (List ℕ)) → ((of : RecoveredBook root bytes files) (file : List ℕ) → of.book of.name ≡ Some file → length file ≤ 4194304 → OpensOrFails of.name file)
-        → (status : ℕ) × (text : List ℕ) × RootOutput root bytes files status text
-    by None told = (2, usage_line, (refl, refl))
-    by (Some root) told = script_output root bytes files told
+    by : (root : Option (List ℕ)) → (status : ℕ) × (text : List ℕ) × RootOutput root bytes files status text
+    by None = (2, usage_line, (refl, refl))
+    by (Some root) = script_output root bytes files

@@ -1,5 +1,5 @@
 -- Runs that recover no book, and what is read of a script.
-use Rattle.std.proofs.Common.{◌≡◌, ◌<◌, ◌∙◌, ◌⊎◌, ℕ, List, [], ◌++◌, true, false, Option, Some, length, refl, sym, ap, subst, arith, inl, inr, ⊎_elim, length-append}
+use Rattle.std.proofs.Common.{◌+◌, ◌≡◌, ◌<◌, ◌∙◌, ◌⊎◌, ℕ, List, [], ◌++◌, true, false, Option, Some, length, refl, sym, ap, subst, arith, inl, inr, ⊎_elim, length-append}
 use Rattle.std.specs.Prelude.{IsTrue}
 use Rattle.std.proofs.lemmas.List.{append-nil}
 use Rattle.bk_desk.specs.Disk.{DiskImage, DiskState, CrashState, IsCrashState, WhileTelling}
@@ -11,6 +11,7 @@ use Rattle.bk_script.specs.declared.script.ScriptFault.{ScriptFault}
 use Rattle.bk_script.specs.declared.script.ScriptFault.TheVariants.{Long, BadLine, Many, NoMemory}
 use Rattle.std.specs.Fmt.{decimal}
 use Rattle.std.specs.Prelude.{codes}
+use Rattle.xt_spec.specs.Limit.{most_script_bytes}
 use Rattle.bk_run.specs.Input.{IsInput}
 use Rattle.book_cli.specs.Output.{IsScriptLine, RootOutput, no_script}
 use Rattle.book_cli.specs.Leaves.{is_still, recovers_book, MayCrashIn, early, still, TakesRunSteps}
@@ -31,19 +32,19 @@ none_left most left bytes after is short = ⊎_elim
     (λ (e : length bytes ≡ most). let never : ⊥ = omega (arith, short, e) in absurd never)
     is.whole
 
-pub input_script : (left bytes : List ℕ) (after : Option (List ℕ)) (commands : List script.Command) → IsInput 1048577 left after bytes → IsScript bytes commands → IsScript left commands
+pub input_script : (left bytes : List ℕ) (after : Option (List ℕ)) (commands : List script.Command) → IsInput (most_script_bytes + 1) left after bytes → IsScript bytes commands → IsScript left commands
 input_script left bytes after commands is reads =
     let fits = reads.size in
-    subst (λ (l : List ℕ). IsScript l commands) (all_read 1048577 left bytes after is (omega (arith, fits))) reads
+    subst (λ (l : List ℕ). IsScript l commands) (all_read (most_script_bytes + 1) left bytes after is (omega (arith, fits))) reads
 
-pub input_fault : (left bytes : List ℕ) (after : Option (List ℕ)) (fault : ScriptFault) → IsInput 1048577 left after bytes → IsFaultOf bytes fault → IsFaultOf left fault
+pub input_fault : (left bytes : List ℕ) (after : Option (List ℕ)) (fault : ScriptFault) → IsInput (most_script_bytes + 1) left after bytes → IsFaultOf bytes fault → IsFaultOf left fault
 input_fault left bytes after Long is has = omega (arith, has, ap length is.parts, length-append bytes is.rest)
 input_fault left bytes after (BadLine number) is has =
     let fits = has.3.size in
-    subst (λ (l : List ℕ). IsFaultOf l (BadLine number)) (all_read 1048577 left bytes after is (omega (arith, fits))) has
+    subst (λ (l : List ℕ). IsFaultOf l (BadLine number)) (all_read (most_script_bytes + 1) left bytes after is (omega (arith, fits))) has
 input_fault left bytes after Many is has =
     let fits = has.3.size in
-    subst (λ (l : List ℕ). IsFaultOf l Many) (all_read 1048577 left bytes after is (omega (arith, fits))) has
+    subst (λ (l : List ℕ). IsFaultOf l Many) (all_read (most_script_bytes + 1) left bytes after is (omega (arith, fits))) has
 input_fault left bytes after NoMemory is has = tt
 
 -- ---- no step

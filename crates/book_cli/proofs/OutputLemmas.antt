@@ -1,13 +1,13 @@
 -- Words, script and files give one output.
 use Rattle.std.proofs.Common.{◌≡◌, ◌∙◌, ℕ, ◌<◌, ◌≤◌, List, [], ◌∷◌, ◌++◌, length, arith, refl, sym, ap, ap₂, subst, Option, Some, None, inl, inr}
+use Rattle.xt_spec.specs.Limit.{most_file_bytes}
 use Rattle.xt_spec.specs.Tree.{Items}
 use Rattle.bk_spec.specs.Node.{Nodes}
 use Rattle.bk_spec.specs.Fault.{Fault, fault_line}
 use Rattle.bk_spec.specs.Opening.{IsOpen}
 use Rattle.bk_spec.specs.Print.{print_tree}
-use Rattle.ent_doc.specs.Opening.{IsDocumentFault}
 use Rattle.ent_doc.proofs.Theorems.{document_fault_once, open_has_no_fault, opens_once}
-use Rattle.ed_session.specs.Start.{IsRootFault, absent, longer, faulty}
+use Rattle.bk_spec.specs.FirstFault.{IsDocumentFault, IsRootFault, absent, longer, faulty}
 use Rattle.ed_spec.specs.Book.{Book, Opens}
 use Rattle.ed_spec.specs.Session.{Session, Command, Reply, Step, opened, Does, accepts, refuses, undoes, undoes_nothing, redoes, redoes_nothing, saves, DoesAll, nothing, then}
 use Rattle.ed_laws.proofs.Theorems.{one_run}
@@ -102,7 +102,7 @@ no_run root commands book steps tree never run =
 
 -- ---- a root that doesn't open
 
-too_long : (bytes others : List ℕ) → bytes ≡ others → 4194304 < length bytes → length others ≤ 4194304 → ⊥
+too_long : (bytes others : List ℕ) → bytes ≡ others → most_file_bytes < length bytes → length others ≤ most_file_bytes → ⊥
 too_long bytes others same more fits = let size = ap length same in absurd (omega (arith, size, more, fits))
 
 root_fault_once : (root : List ℕ) (file : Option (List ℕ)) (a b : Fault) → IsRootFault root file a → IsRootFault root file b → a ≡ b

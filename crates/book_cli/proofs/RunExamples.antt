@@ -14,7 +14,7 @@ use Rattle.bk_script.specs.declared.script.ScriptFault.TheVariants.{BadLine, NoM
 use Rattle.bk_script.proofs.Scripts.{script_takes}
 use Rattle.jr_burst.specs.SavedFiles.{open_text}
 use Rattle.bk_spec.specs.Fault as fault
-use Rattle.ed_session.specs.Start as start
+use Rattle.bk_spec.specs.FirstFault as first
 use Rattle.book_cli.specs.Output.{usage_line, journal_line, IsScriptLine, status_after, closed, BookOutput, ScriptOutput, damaged, IsOutput, is_exit_status}
 use Rattle.book_cli.specs.Leaves.{is_still, recovers_book, MayCrashIn, early, still, recovering, saving}
 use Rattle.book_cli.specs.Ends.{AnswersWith, whole, cut}
@@ -43,7 +43,7 @@ refused_one s = refl
 
 -- a root that isn't there
 absent : (book : Book) → book (codes "a.xml") ≡ None → BookOutput (codes "a.xml") [] book 3 (codes "fault Missing a.xml\n")
-absent book none = ([], codes "fault Missing a.xml\n", closed (fault.missing (codes "a.xml")) (start.absent none refl) refl refl refl, refl)
+absent book none = ([], codes "fault Missing a.xml\n", closed (fault.missing (codes "a.xml")) (first.absent none refl) refl refl refl, refl)
 
 -- an open gate with no journal beside it
 abbrev gate_alone : DiskImage

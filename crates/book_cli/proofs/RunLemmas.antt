@@ -3,6 +3,7 @@ use Rattle.std.proofs.Common.{◌≡◌, ◌≤◌, ◌+◌, ◌*◌, ◌∙◌,
 use Rattle.std.specs.Prelude.{IsTrue, IfSome}
 use Rattle.std.proofs.Math.Path.{fun_ext}
 use Rattle.std.proofs.Math.Seq.{take-length}
+use Rattle.xt_spec.specs.Limit.{most_file_bytes}
 use Rattle.bk_desk.specs.declared.desk_name.DeskName.TheVariants as desk
 use Rattle.bk_desk.specs.Disk.{DiskImage, DiskState, CrashState, IsCrashImage, IsCrashState, WhileTelling, Syncs}
 use Rattle.bk_desk.specs.CrashPoints.{AtEachCrash}
@@ -121,11 +122,11 @@ saving_crash start mid steps last crash is at = record {
 
 -- ---- steps
 
-most_steps : (earlier mid now size same_size count same_count : ℕ) → mid ≡ earlier + size → now ≤ mid + count * 4194304 → size ≡ same_size → count ≡ same_count → now ≤ earlier + (same_size + same_count * 4194304)
+most_steps : (earlier mid now size same_size count same_count : ℕ) → mid ≡ earlier + size → now ≤ mid + count * most_file_bytes → size ≡ same_size → count ≡ same_count → now ≤ earlier + (same_size + same_count * most_file_bytes)
 most_steps earlier mid now size same_size count same_count read more a b = omega (arith, read, more, a, b)
 
 pub opened_steps : (root bytes : List ℕ) (files : DiskImage) (commands : List script.Command) (book : Book) (answer earlier mid now count : ℕ) → IsScript bytes commands → recovered_files files ≡ Some book
-    → mid ≡ earlier + recovered_steps root (recovered_files files) → mid ≤ now → now ≤ mid + count * 4194304 → count ≡ length commands → TakesRunSteps (Some root) bytes files answer earlier now
+    → mid ≡ earlier + recovered_steps root (recovered_files files) → mid ≤ now → now ≤ mid + count * most_file_bytes → count ≡ length commands → TakesRunSteps (Some root) bytes files answer earlier now
 opened_steps root bytes files commands book answer earlier mid now count reads found read later more counted = record {
   none = λ never. absurd (never (over root bytes files commands book reads found));
   most = λ of.

@@ -10,6 +10,7 @@
 --   IsBookSaved      .. by the steps of a run
 --   TakesRunSteps    how many steps a run takes
 use Rattle.std.specs.Prelude.{◌≡◌, ℕ, ◌+◌, ◌*◌, ◌≤◌, Bool, ◌||◌, ◌==◌, false, IsTrue, List, length, Option, Some}
+use Rattle.xt_spec.specs.Limit.{most_file_bytes}
 use Rattle.ed_spec.specs.Book.{Book}
 use Rattle.ed_spec.specs.Session.{Step}
 use Rattle.bk_desk.specs.declared.desk_name.DeskName.TheVariants as desk
@@ -75,5 +76,5 @@ pub record IsBookSaved (root : Option (List ℕ)) (bytes : List ℕ) (start now 
 -- such a run not less than one a byte of the root.
 pub record TakesRunSteps (root : Option (List ℕ)) (bytes : List ℕ) (files : DiskImage) (answer earlier now : ℕ) : Type 0 where
   pub none : (RecoveredBook root bytes files → ⊥) → now ≡ earlier
-  pub most : (of : RecoveredBook root bytes files) → now ≤ earlier + (file_steps (of.book of.name) + length of.commands * 4194304)
+  pub most : (of : RecoveredBook root bytes files) → now ≤ earlier + (file_steps (of.book of.name) + length of.commands * most_file_bytes)
   pub least : IsTrue (recovers_book answer) → (of : RecoveredBook root bytes files) → earlier + file_steps (of.book of.name) ≤ now

@@ -7,7 +7,6 @@
 --   BookOutput       status and output for a book that was recovered, its root and the commands
 --   ScriptOutput     .. for a root, the bytes of a script and the files
 --   IsOutput         .. for the words, the script and the files
---   OpensOrFails     a document opens, or has a first fault
 --   is_book_status, is_script_status, is_exit_status  a status that comes with a whole output
 --   is_answer        what a run answers
 --   WritesOutput     a whole output was added to what was told
@@ -15,11 +14,8 @@
 use Rattle.std.specs.Prelude.{◌≡◌, ◌⊎◌, ℕ, Bool, ◌||◌, ◌==◌, List, [], ◌++◌, take, codes, if◌then◌else◌, Option, Some, None}
 use Rattle.std.specs.Fmt.{decimal}
 use Rattle.xt_spec.specs.Tree.{Items}
-use Rattle.bk_spec.specs.Node.{Nodes}
 use Rattle.bk_spec.specs.Fault.{Fault, fault_line}
-use Rattle.bk_spec.specs.Opening.{IsOpen}
 use Rattle.bk_spec.specs.Print.{print_tree}
-use Rattle.ent_doc.specs.Opening.{IsDocumentFault}
 use Rattle.ed_spec.specs.Book.{Book, Opens}
 use Rattle.ed_spec.specs.Session.{Session, Command, Step, opened, DoesAll}
 use Rattle.bk_desk.specs.Disk.{DiskImage}
@@ -29,7 +25,7 @@ use Rattle.bk_script.specs.declared.script.ScriptFault.{ScriptFault}
 use Rattle.bk_script.specs.declared.script.ScriptFault.TheVariants.{Long, BadLine, Many, NoMemory}
 use Rattle.jr_burst.specs.SavedFiles.{recovered_files}
 use Rattle.book_cli.specs.Words.{root_of}
-use Rattle.ed_session.specs.Start.{IsRootFault}
+use Rattle.bk_spec.specs.FirstFault.{IsRootFault}
 use Rattle.bk_run.specs.Replies.{AreCommandsOf, replies_text, any_refused}
 
 abbrev pub usage_line : List ℕ
@@ -91,10 +87,6 @@ RootOutput (Some root) bytes files status text = ScriptOutput root bytes files s
 
 abbrev pub IsOutput : List (List ℕ) → List ℕ → DiskImage → ℕ → List ℕ → Type 0
 IsOutput words bytes files status text = RootOutput (root_of words) bytes files status text
-
--- the file of these bytes opens, or has a first fault
-abbrev pub OpensOrFails : List ℕ → List ℕ → Type 0
-OpensOrFails name bytes = ((items : Items) × (nodes : Nodes) × IsOpen name bytes items nodes) ⊎ ((fault : Fault) × IsDocumentFault name bytes fault)
 
 -- a status of a run whose script has a reading; is_script_status: of one whose words have; is_exit_status: of any whole output
 abbrev pub is_book_status : ℕ → Bool

@@ -1,5 +1,6 @@
 //! The run of the program, over any disk and any script.
 ghost use Rattle.std.specs.Prelude.{◌≡◌, ◌≢◌, ◌⊎◌, ◌≤◌, ◌+◌, ◌*◌, ◌++◌, ℕ, List, [], length, map, Option, Some, None, IsTrue, string_bytes, encode_utf8_all};
+ghost use Rattle.xt_spec.specs.Limit.{most_file_bytes, most_script_bytes};
 ghost use Rattle.bk_desk.specs.Disk.{DiskState};
 ghost use Rattle.bk_desk.specs.CrashPoints.{AtEachCrash};
 ghost use Rattle.bk_desk.specs.Cause.{Rose, HasCause};
@@ -52,7 +53,7 @@ fn run_session<D: Desk, L: Ledger>(
     ensures output { IsTrue D.tells → (start : DiskState) → IsStarted session.root start (D.standing desk.old) session
         → IsSessionRun session.root (map command_of commands.now) (D.standing desk.old) (D.standing desk.new) (AtEachCrash D.time D.was desk.old desk.new) result }
     ensures cause_desk { HasCause (D.faults desk.old) (D.faults desk.new) (result ≡ 6) }
-    ensures count { (steps.old ≤ steps.new) × (steps.new ≤ steps.old + length commands.now * 4194304) }
+    ensures count { (steps.old ≤ steps.new) × (steps.new ≤ steps.old + length commands.now * most_file_bytes) }
 {
     match tell_replies(alloc, &mut session, commands, desk, steps) {
         Ok(refused) => tell_tree(alloc, session, refused, desk),
@@ -94,13 +95,13 @@ fn run_script<D: Desk, L: Ledger>(
     steps: &mut Steps<L>,
 ) -> u8
     ensures value { IsTrue (is_script_status result) ⊎ ((result ≡ 6) ⊎ (result ≡ 7)) }
-    ensures only { IsTrue (is_book_status result) → length bytes.now ≤ 1048576 }
-    ensures output { IsTrue D.tells → (left : List ℕ) (after : Option (List ℕ)) → IsInput 1048577 left after bytes.now
+    ensures only { IsTrue (is_book_status result) → length bytes.now ≤ most_script_bytes }
+    ensures output { IsTrue D.tells → (left : List ℕ) (after : Option (List ℕ)) → IsInput (most_script_bytes + 1) left after bytes.now
         → IsRunOver (Some root.now) left (D.standing desk.old) (D.standing desk.new) (AtEachCrash D.time D.was desk.old desk.new) result }
     ensures same { IsTrue D.tells → result ≡ 4 → KeepsFiles (D.standing desk.old) (D.standing desk.new) }
     ensures cause_desk { HasCause (D.faults desk.old) (D.faults desk.new) (result ≡ 6) }
     ensures count { steps.old ≤ steps.new }
-    ensures exact { IsTrue D.tells → (left : List ℕ) (after : Option (List ℕ)) → IsInput 1048577 left after bytes.now → TakesRunSteps (Some root.now) left (D.standing desk.old).files result steps.old steps.new }
+    ensures exact { IsTrue D.tells → (left : List ℕ) (after : Option (List ℕ)) → IsInput (most_script_bytes + 1) left after bytes.now → TakesRunSteps (Some root.now) left (D.standing desk.old).files result steps.old steps.new }
 {
     match read_script(alloc, bytes) {
         Ok(commands) => run_book(alloc, root, &commands, desk, steps),

@@ -2,6 +2,7 @@
 use Rattle.std.proofs.Common.{◌≡◌, ◌∙◌, ℕ, ◌<◌, ◌≤◌, List, length, sym, ap, subst, true, false, Some, Result, Vec, Global, encode_utf8_all}
 use Rattle.std.specs.Prelude.{IfOk}
 use Rattle.std.specs.List.{list_all}
+use Rattle.xt_spec.specs.Limit.{most_file_bytes}
 use Rattle.xt_spec.specs.Char.{is_char}
 use Rattle.xt_spec.specs.Tree.{Item, element_item, leaf_item, text_item, reference_item, comment_item, pi_item, gap, Items, source_text}
 use Rattle.xt_spec.specs.Text.{IsTextItem, HasTextValue}
@@ -67,11 +68,11 @@ new_text_there items place new path value from to is = by is.inside.item is.insi
 
 -- the tree of the patched bytes is that of the edit, and they open
 pub edit_of_new : (root old : List ℕ) (items : Items) (place new path value bytes : List ℕ) (from to : ℕ) → Opens root old items → IsNewText items place from to new path value
-    → bytes ≡ source_text (text_edited false items path value) → length bytes ≤ 4194304 → IsEditOf root items (text_edit place from to new) bytes
+    → bytes ≡ source_text (text_edited false items path value) → length bytes ≤ most_file_bytes → IsEditOf root items (text_edit place from to new) bytes
 edit_of_new root old items place new path value bytes from to (nodes, opens) is bytes_are fits =
     let same : text_edited false items path value ≡ edited items path is.characters from to new = ap (λ (l : List ℕ). text_edited false items path l) is.value_is in
     let all : bytes ≡ source_text (edited items path is.characters from to new) = bytes_are ∙ ap source_text same in
-    let small : length (source_text (edited items path is.characters from to new)) ≤ 4194304 = subst (λ (l : List ℕ). length l ≤ 4194304) all fits in
+    let small : length (source_text (edited items path is.characters from to new)) ≤ most_file_bytes = subst (λ (l : List ℕ). length l ≤ most_file_bytes) all fits in
     let accepts : Accepts items (text_edit place from to new) (edited items path is.characters from to new) = accepted place from to new path is.characters is.inside is.new_are small in
     let next = an_edited_document_opens root old items (edited items path is.characters from to new) nodes (text_edit place from to new) opens accepts in
     record {
@@ -85,7 +86,7 @@ pub too_large_refused : (items : Items) (place new path value bytes : List ℕ) 
     → IsTooLarge bytes e → IsRefusal items (text_edit place from to new) e
 too_large_refused items place new path value bytes from to (Refused TooLarge) is bytes_are large =
     no_room place from to new path is.characters is.inside is.new_are
-    (subst (λ (l : List ℕ). 4194304 < length l) (bytes_are ∙ ap (λ (l : List ℕ). source_text (text_edited false items path l)) is.value_is) large)
+    (subst (λ (l : List ℕ). most_file_bytes < length l) (bytes_are ∙ ap (λ (l : List ℕ). source_text (text_edited false items path l)) is.value_is) large)
 too_large_refused items place new path value bytes from to (Refused NoSuchPlace) is bytes_are large = absurd large
 too_large_refused items place new path value bytes from to (Refused WrongKind) is bytes_are large = absurd large
 too_large_refused items place new path value bytes from to (Refused BadRange) is bytes_are large = absurd large

@@ -10,7 +10,8 @@ use Rattle.ed_session.specs.Items.{gives_node_item, content, item_count, IsNarro
 use Rattle.ed_session.specs.Edits.{IsNoValue}
 use Rattle.ed_session.specs.Burst.{IsCount}
 use Rattle.bk_spec.specs.Fault.{missing, too_large}
-use Rattle.ed_session.specs.Start.{IsRootFault, absent, longer, faulty, size_of_got, file_steps}
+use Rattle.bk_spec.specs.FirstFault.{IsRootFault, absent, longer, faulty}
+use Rattle.ed_session.specs.Start.{size_of_got, file_steps}
 
 -- an element gives a node, white space at the top gives none
 gives_node_item-right : gives_node_item (element_item (codes "<a/>") nil None) ≡ true

@@ -2,6 +2,7 @@
 use Rattle.std.proofs.Common.{◌≡◌, ℕ, ◌≤◌, List, [], length, Option, Some, None, Ok, Err, ◌∙◌, sym, subst, Vec}
 use Rattle.std.specs.Prelude.{IsUtf8}
 use Rattle.std.specs.Global.{Global}
+use Rattle.xt_spec.specs.Limit.{most_file_bytes}
 use Rattle.xt_spec.specs.Tree.{Items}
 use Rattle.xt_spec.specs.Content.{Content, HasContent}
 use Rattle.bk_spec.specs.Node.{Nodes}
@@ -27,7 +28,7 @@ same_opens q r a b i j root bytes items is =
 
 -- a root whose nodes were just made
 pub is_open_root : (root a b : List ℕ) (items : List Src) (nodes : List Node) (saved : Option (Vec ℕ Global)) → a ≡ b → IsMadeOf root b items nodes → AreInPlace b 0 (marks_of items) (length b)
-    → length (saved_of saved a) ≤ 4194304 → IsOpenRoot root a items (Some nodes) saved
+    → length (saved_of saved a) ≤ most_file_bytes → IsOpenRoot root a items (Some nodes) saved
 is_open_root root a b items nodes saved bytes made place size =
     let same : IsMadeOf root a items nodes = subst (λ (l : List ℕ). IsMadeOf root l items nodes) (sym bytes) made in
     record {
@@ -38,7 +39,7 @@ is_open_root root a b items nodes saved bytes made place size =
     }
 
 -- .. and one whose nodes aren't kept
-pub is_edited_root : (root a b : List ℕ) (items : List Src) (saved : Option (Vec ℕ Global)) → a ≡ b → Opens root b (items_in b items) → AreInPlace b 0 (marks_of items) (length b) → length (saved_of saved a) ≤ 4194304
+pub is_edited_root : (root a b : List ℕ) (items : List Src) (saved : Option (Vec ℕ Global)) → a ≡ b → Opens root b (items_in b items) → AreInPlace b 0 (marks_of items) (length b) → length (saved_of saved a) ≤ most_file_bytes
     → IsOpenRoot root a items None saved
 is_edited_root root a b items saved bytes opens place size = record {
   opens = subst (λ (l : List ℕ). Opens root l (items_in l items)) (sym bytes) opens;

@@ -2,6 +2,7 @@
 use Rattle.std.proofs.Common.{◌≡◌, ◌≢◌, ℕ, suc, ◌<◌, ◌≤◌, ◌+◌, List, [], ◌∷◌, ◌++◌, length, refl, sym, subst, arith, inl, inr, Option, codes, map}
 use Rattle.std.proofs.lemmas.List.{length-append}
 use Rattle.std.specs.List.{concat}
+use Rattle.xt_spec.specs.Limit.{most_file_bytes}
 use Rattle.xt_spec.specs.Declaration.{IsDeclarationOf, Declaration, is_xml_declaration}
 use Rattle.xt_spec.specs.Reference.{IsEntityRef}
 use Rattle.xt_spec.specs.Tag.{attribute_text}
@@ -83,9 +84,9 @@ some_narrow most (element open_tag kids close rest) are fits =
 some_narrow most (leaf kind text rest) are fits = some_narrow most rest are.1 (omega (arith, length-append text (source_text rest)))
 
 -- in a document that opens no more than 4,194,304 items stand side by side
-pub open_narrow : (root bytes : List ℕ) (items : Items) → Opens root bytes items → IsNarrow 4194304 items
+pub open_narrow : (root bytes : List ℕ) (items : Items) → Opens root bytes items → IsNarrow most_file_bytes items
 open_narrow root bytes items (nodes, opens) =
     let are = reading_some items opens.reading.ordered in
-    let fits : length (source_text items) ≤ 4194304 = subst (λ (l : List ℕ). length l ≤ 4194304) (sym opens.reading.joined) opens.size in
+    let fits : length (source_text items) ≤ most_file_bytes = subst (λ (l : List ℕ). length l ≤ most_file_bytes) (sym opens.reading.joined) opens.size in
     let few = some_count items are in
-    (omega arith, some_narrow 4194304 items are fits)
+    (omega arith, some_narrow most_file_bytes items are fits)

@@ -13,6 +13,7 @@
 use Rattle.std.specs.Prelude.{◌≡◌, ◌⊎◌, ◌<◌, ◌≤◌, ℕ, List, length, true, false, Some, None}
 use Rattle.std.specs.List.{list_all}
 use Rattle.std.specs.Str.{chars}
+use Rattle.xt_spec.specs.Limit.{most_file_bytes}
 use Rattle.xt_spec.specs.Char.{is_char}
 use Rattle.xt_spec.specs.Tree.{Items, Item, source_text}
 use Rattle.xt_spec.specs.Paths.{item_at}
@@ -62,7 +63,7 @@ IsNoValue old from to new (Refused TooLarge) = ⊥
 IsNoValue old from to new NoMemory = Unit {0}
 
 abbrev pub IsTooLarge : List ℕ → EditFault → Type 0
-IsTooLarge bytes (Refused TooLarge) = 4194304 < length bytes
+IsTooLarge bytes (Refused TooLarge) = most_file_bytes < length bytes
 IsTooLarge bytes (Refused NoSuchPlace) = ⊥
 IsTooLarge bytes (Refused WrongKind) = ⊥
 IsTooLarge bytes (Refused BadRange) = ⊥

@@ -8,6 +8,7 @@
 --   IsOpenRoot  a root that opens: its tags and leaves stand in their places, and its nodes are these where they are kept
 use Rattle.std.specs.Prelude.{◌≡◌, ℕ, ◌≤◌, List, [], length, Option, Some, None, Vec, IfSome}
 use Rattle.std.specs.Global.{Global}
+use Rattle.xt_spec.specs.Limit.{most_file_bytes}
 use Rattle.xt_spec.specs.Tree.{Items}
 use Rattle.bk_spec.specs.Node.{Nodes}
 use Rattle.bk_spec.specs.NodePaths.{node_paths}
@@ -48,4 +49,4 @@ pub record IsOpenRoot (root bytes : List ℕ) (items : List Src) (nodes : Option
   pub opens : Opens root bytes (items_in bytes items)
   pub nodes_are : IfSome nodes (IsMadeOf root bytes items)
   pub place : AreInPlace bytes 0 (marks_of items) (length bytes)
-  pub size : length (saved_of saved bytes) ≤ 4194304
+  pub size : length (saved_of saved bytes) ≤ most_file_bytes

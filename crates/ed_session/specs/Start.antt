@@ -3,22 +3,21 @@
 --   start_of_recover, start_of_desk, start_of_open  the fault that one of a recovery, of the desk, or of a document, is
 --   IsOver                           the session is over a root of these bytes
 --   IsStarted                        the book was recovered, and the session is over its root
---   IsRootFault                      why the root of a book does not open
---   IsNoOpening, IsNoRoot            .. as the code answers, of bytes and of the file
+--   IsNoOpening, IsNoRoot            why bytes, and a file, do not open, as the code answers
 --   IsFaulty                         the book was recovered, and its root does not open
 --   FailsBy                          why there is no session
 --   size_of_got, file_steps          how many steps it takes to read a file: one a byte
 --   recovered_steps                  .. the root of the book that is recovered; none where there is no book
 --   HasRead                          the call did not end before the root was read
 --   TakesSteps                       so many steps at most, and exactly so many where this holds
-use Rattle.std.specs.Prelude.{◌≡◌, ◌<◌, ◌≤◌, ◌+◌, ℕ, List, length, nat_le, if◌then◌else◌, Option, Some, None, Result, Ok, Err}
+use Rattle.std.specs.Prelude.{◌≡◌, ◌≤◌, ◌+◌, ℕ, List, length, nat_le, if◌then◌else◌, Option, Some, None, Result, Ok, Err}
+use Rattle.xt_spec.specs.Limit.{most_file_bytes}
 use Rattle.xt_spec.specs.Tree.{Items}
-use Rattle.bk_spec.specs.Fault.{Fault, missing, too_large}
 use Rattle.bk_info.specs.declared.fault.BookFault.{BookFault}
 use Rattle.bk_info.specs.Nodes.{fault_in}
 use Rattle.ent_doc.specs.declared.fault.OpenFault.{OpenFault}
 use Rattle.ent_doc.specs.declared.fault.OpenFault.TheVariants as opening
-use Rattle.ent_doc.specs.Opening.{IsDocumentFault}
+use Rattle.bk_spec.specs.FirstFault.{IsDocumentFault, IsRootFault}
 use Rattle.bk_desk.specs.declared.desk_name.DeskName.TheVariants.{Book}
 use Rattle.bk_desk.specs.declared.desk.DeskErr.{DeskErr}
 use Rattle.bk_desk.specs.declared.desk.DeskErr.TheVariants as desk
@@ -54,12 +53,6 @@ pub record IsOver (root : List ℕ) (file : Option (List ℕ)) (session : Kept) 
   pub saved : session.saved ≡ session.bytes
   pub items : Items
   pub opens : Opens root session.bytes items
-
--- The root of a book does not open: it isn't there; it has more than 4,194,304 bytes; or its bytes have this first fault.
-pub data IsRootFault (root : List ℕ) (file : Option (List ℕ)) (fault : Fault) : Type 0 where
-  absent : file ≡ None → fault ≡ missing root → IsRootFault root file fault
-  longer : (bytes : List ℕ) → file ≡ Some bytes → 4194304 < length bytes → fault ≡ too_large root → IsRootFault root file fault
-  faulty : (bytes : List ℕ) → file ≡ Some bytes → length bytes ≤ 4194304 → IsDocumentFault root bytes fault → IsRootFault root file fault
 
 -- there is no session over a root of these bytes
 abbrev pub IsNoOpening : List ℕ → List ℕ → StartFault → Type 0
@@ -101,7 +94,7 @@ size_of_got Longer = 0
 -- a step a byte of a file of at most 4,194,304 bytes
 abbrev pub file_steps : Option (List ℕ) → ℕ
 file_steps None = 0
-file_steps (Some bytes) = if nat_le (length bytes) 4194304 then length bytes else 0
+file_steps (Some bytes) = if nat_le (length bytes) most_file_bytes then length bytes else 0
 
 -- .. of the root of the book that is recovered; none where the journal is damaged
 abbrev pub recovered_steps : List ℕ → Option Files → ℕ

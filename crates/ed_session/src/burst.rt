@@ -1,5 +1,6 @@
 //! Saving the root, where it differs from what was saved.
 ghost use Rattle.std.specs.Prelude.{◌≡◌, ◌≢◌, ◌≤◌, ◌∷◌, [], ℕ, List, true, false, IsTrue, IfOk, OnErr, IsErrOf, length};
+ghost use Rattle.xt_spec.specs.Limit.{most_file_bytes};
 ghost use Rattle.bk_desk.specs.declared.desk_name.DeskName.TheVariants.{Book};
 ghost use Rattle.bk_desk.specs.CrashPoints.{AtEachCrash};
 ghost use Rattle.bk_desk.specs.Cause.{HasCause};
@@ -16,7 +17,7 @@ use xt_table::Seq;
 
 /// What it takes to save a root of these bytes.
 fn plan_of(alloc: Global, root: &Name, bytes: &[u8]) -> Result<Plan, AllocError>
-    requires fits { length bytes.now ≤ 4194304 }
+    requires fits { length bytes.now ≤ most_file_bytes }
     ensures value { IfOk result (λ plan. plan ≡ item_of root.now bytes.now ∷ []) }
 {
     let item = Item {

@@ -2,6 +2,7 @@
 ghost use Rattle.std.specs.Prelude.{◌≡◌, ◌≤◌, ◌+◌, ◌^◌, ℕ, List, Some, true, false, length, IfOk, IfErr, OnOk, OnErr, MatchOption, string_bytes};
 ghost use Rattle.std.specs.List.{list_all};
 ghost use Rattle.std.specs.Str.{chars};
+ghost use Rattle.xt_spec.specs.Limit.{most_file_bytes};
 ghost use Rattle.xt_spec.specs.Char as spec;
 ghost use Rattle.xt_spec.specs.Tree.{Items as SyntaxItems, leaf_item, text_item};
 ghost use Rattle.xt_spec.specs.Text.{IsTextItem, HasTextValue};
@@ -63,7 +64,7 @@ fn text_span_at(items: &[Src], path: &[u32]) -> Result<Span, Refusal>
 
 /// The text item at a place.
 fn find_text(alloc: Global, bytes: &[u8], items: &[Src], place: &[u32]) -> Result<TextAt, EditFault>
-    requires few { IsNarrow MOST_BYTES (items_in bytes.now items.now) }
+    requires few { IsNarrow most_file_bytes (items_in bytes.now items.now) }
     ensures value { IfOk result (λ t. IsAt (items_in bytes.now items.now) place.now t.path.items (leaf_item text_item (at_span bytes.now t.span))) }
     ensures fault { IfErr result (IsNoText (items_in bytes.now items.now) place.now) }
 {
@@ -114,7 +115,7 @@ fn new_value(alloc: Global, old: &str, from: u32, to: u32, new: &str) -> Result<
 fn with_patch(alloc: Global, bytes: &[u8], patch: &Patch) -> Result<Vec<u8>, EditFault>
     requires order { patch.now.from ≤ patch.now.to }
     requires within { patch.now.to ≤ length bytes.now }
-    ensures value { IfOk result (λ out. (out.items ≡ patched bytes.now patch.now) × (length out.items ≤ MOST_BYTES)) }
+    ensures value { IfOk result (λ out. (out.items ≡ patched bytes.now patch.now) × (length out.items ≤ most_file_bytes)) }
     ensures fault { IfErr result (IsTooLarge (patched bytes.now patch.now)) }
 {
     let left = bytes.len() - (patch.to - patch.from) as usize;
@@ -132,7 +133,7 @@ fn read_again<L: Ledger>(
     bytes: &[u8],
     steps: &mut Steps<L>,
 ) -> Result<Items<Src>, AllocError>
-    requires fits { length bytes.now ≤ MOST_BYTES }
+    requires fits { length bytes.now ≤ most_file_bytes }
     requires opens { (root : List ℕ) × (items : SyntaxItems) × Opens root bytes.now items }
     ensures value { IfOk result (λ is. (root : List ℕ) (items : SyntaxItems) → Opens root bytes.now items → Opens root bytes.now (items_in bytes.now is)) }
     ensures place { IfOk result (λ items. AreInPlace bytes.now 0 (marks_of items) (length bytes.now)) }
@@ -195,7 +196,7 @@ fn edited(
     requires current { (root : List ℕ) × Opens root bytes.now (items_in bytes.now items.now) }
     requires place { AreInPlace bytes.now 0 (marks_of items.now) (length bytes.now) }
     ensures value { IfOk result (λ out. (root : List ℕ) → Opens root bytes.now (items_in bytes.now items.now) → IsEditOf root (items_in bytes.now items.now) (text_edit at.now from to (chars new.now)) out.items) }
-    ensures fits { IfOk result (λ out. length out.items ≤ MOST_BYTES) }
+    ensures fits { IfOk result (λ out. length out.items ≤ most_file_bytes) }
     ensures fault { IfErr result (IsRefusal (items_in bytes.now items.now) (text_edit at.now from to (chars new.now))) }
 {
     let text = match new_text(alloc, bytes, items, at, from, to, new) {
@@ -218,7 +219,7 @@ fn edited_by(alloc: Global, bytes: &[u8], items: &[Src], op: &Op) -> Result<Vec<
     requires current { (root : List ℕ) × Opens root bytes.now (items_in bytes.now items.now) }
     requires place { AreInPlace bytes.now 0 (marks_of items.now) (length bytes.now) }
     ensures value { IfOk result (λ out. (root : List ℕ) → Opens root bytes.now (items_in bytes.now items.now) → IsEditOf root (items_in bytes.now items.now) (edit_of op.now) out.items) }
-    ensures fits { IfOk result (λ out. length out.items ≤ MOST_BYTES) }
+    ensures fits { IfOk result (λ out. length out.items ≤ most_file_bytes) }
     ensures fault { IfErr result (IsRefusal (items_in bytes.now items.now) (edit_of op.now)) }
 {
     match op {
@@ -261,7 +262,7 @@ impl Session {
         ensures value { OnOk result (IsEdited (edit_of op.now) self.old self.new) }
         ensures fault { IfErr result (IsRefusedIn self.old.root self.old.bytes (edit_of op.now)) }
         ensures same { OnErr result (self.new ≡ self.old) }
-        ensures count { (steps.old ≤ steps.new) × (steps.new ≤ steps.old + MOST_BYTES) }
+        ensures count { (steps.old ≤ steps.new) × (steps.new ≤ steps.old + most_file_bytes) }
         ensures exact { OnOk result (steps.new ≡ steps.old + length self.new.bytes) }
     {
         let alloc = *self.bytes.allocator();

@@ -1,5 +1,6 @@
 //! How a session begins: the book is recovered, its root is read, and opens.
 ghost use Rattle.std.specs.Prelude.{◌≡◌, ◌≤◌, ◌+◌, ℕ, List, Option, None, length, IsTrue, IfOk, IfErr, IsErrOf};
+ghost use Rattle.xt_spec.specs.Limit.{most_file_bytes};
 ghost use Rattle.xt_spec.specs.Tree.{Items as SyntaxItems};
 ghost use Rattle.bk_desk.specs.declared.desk_name.DeskName.TheVariants.{Book};
 ghost use Rattle.bk_desk.specs.Disk.{FitsCap, Syncs, got_of};
@@ -98,7 +99,7 @@ fn opened<L: Ledger>(
     bytes: Vec<u8>,
     steps: &mut Steps<L>,
 ) -> Result<Session, StartFault>
-    requires fits { length bytes.items ≤ MOST_BYTES }
+    requires fits { length bytes.items ≤ most_file_bytes }
     ensures value { IfOk result (λ s. s ≡ record { root = root; bytes = bytes.items; saved = bytes.items }) }
     ensures opens { IfOk result (λ s. (items : SyntaxItems) × Opens root bytes.items items) }
     ensures fault { IfErr result (IsNoOpening root bytes.items) }
@@ -121,11 +122,11 @@ fn opened_by<L: Ledger>(
     got: Got,
     steps: &mut Steps<L>,
 ) -> Result<Session, StartFault>
-    requires fits { FitsCap MOST_BYTES got }
-    ensures value { IfOk result (λ s. (found : Option (List ℕ)) → got ≡ got_of found MOST_BYTES → IsOver root.now found s) }
-    ensures fault { IfErr result (λ e. (found : Option (List ℕ)) → got ≡ got_of found MOST_BYTES → IsNoRoot root.now found e) }
+    requires fits { FitsCap most_file_bytes got }
+    ensures value { IfOk result (λ s. (found : Option (List ℕ)) → got ≡ got_of found most_file_bytes → IsOver root.now found s) }
+    ensures fault { IfErr result (λ e. (found : Option (List ℕ)) → got ≡ got_of found most_file_bytes → IsNoRoot root.now found e) }
     ensures only { ¬ IsErrOf result StartFault.Desk × ¬ IsErrOf result StartFault.Journal }
-    ensures count { steps.new ≤ steps.old + MOST_BYTES }
+    ensures count { steps.new ≤ steps.old + most_file_bytes }
     ensures exact { (steps.old ≤ steps.new) × TakesSteps (¬ IsErrOf result StartFault.NoMemory) (size_of_got got) steps.old steps.new }
 {
     match got {
@@ -152,7 +153,7 @@ pub fn start<D: Desk, L: Ledger>(
     ensures none { IsTrue D.tells → recovered_files (D.standing desk.old).files ≡ None → Syncs (D.standing desk.old) (D.standing desk.new) }
     ensures crash { IsTrue D.tells → AtEachCrash D.time D.was desk.old desk.new (IsStartOrRecovered (D.standing desk.old)) }
     ensures cause_desk { HasCause (D.faults desk.old) (D.faults desk.new) (IsErrOf result StartFault.Desk) }
-    ensures count { (steps.old ≤ steps.new) × (steps.new ≤ steps.old + MOST_BYTES) }
+    ensures count { (steps.old ≤ steps.new) × (steps.new ≤ steps.old + most_file_bytes) }
     ensures exact { IsTrue D.tells → TakesSteps (HasRead result) (recovered_steps root.now (recovered_files (D.standing desk.old).files)) steps.old steps.new }
 {
     recover(alloc, desk)?;

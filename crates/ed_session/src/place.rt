@@ -1,6 +1,7 @@
 //! From a place of the printed tree to the path of its item. No item is empty, so no more of them stand side by side than a
 //! file may have bytes.
 ghost use Rattle.std.specs.Prelude.{◌≡◌, ◌<◌, ◌≤◌, ◌^◌, ℕ, List, [], Some, None, length, map, IfOk, MatchOption};
+ghost use Rattle.xt_spec.specs.Limit.{most_file_bytes};
 ghost use Rattle.xt_spec.specs.Text as of_text;
 ghost use Rattle.ed_spec.specs.Place as spec;
 ghost use Rattle.xt_tree.specs.Meaning.{at_span, item_of, items_in};
@@ -82,7 +83,7 @@ pub(crate) fn path_of(
     items: &[Src],
     place: &[u32],
 ) -> Result<Option<Vec<u32>>, AllocError>
-    requires few { IsNarrow MOST_BYTES (items_in bytes.now items.now) }
+    requires few { IsNarrow most_file_bytes (items_in bytes.now items.now) }
     ensures value { IfOk result (λ found. MatchOption found (spec.path_of (items_in bytes.now items.now) place.now ≡ None) (λ path. spec.path_of (items_in bytes.now items.now) place.now ≡ Some path.items)) }
 {
     if place.is_empty() {

@@ -1,5 +1,5 @@
 -- What a whole document gives.
-use Rattle.std.proofs.Common.{◌≡◌, ℕ, List, subst, Ok}
+use Rattle.std.proofs.Common.{◌≡◌, ℕ, List, subst, Ok, IfSome}
 use Rattle.xt_spec.specs.Content.{Content, HasContent}
 use Rattle.xt_spec.specs.Tree.{Items, nil}
 use Rattle.xt_tree.specs.declared.source.Src.{Src}
@@ -11,6 +11,7 @@ use Rattle.bk_info.specs.Nodes.{nodes_in}
 use Rattle.ent_doc.specs.declared.fault.OpenFault.{OpenFault}
 use Rattle.ent_doc.specs.declared.fault.OpenFault.TheVariants.{Book, NoMemory}
 use Rattle.ent_doc.specs.Faults.{IsNodesFault}
+use Rattle.ent_doc.specs.Opening.{open_fault}
 use Rattle.ent_doc.specs.Steps.{Gives, GivesFault}
 use Rattle.ent_doc.proofs.ElementLemmas.{gives_all}
 
@@ -24,11 +25,11 @@ document_gives file text items context n m nodes top none gives =
     gives_all file (top_context file) (items_in text items) 0 m nodes
     (moved (λ (x : Context) (k : ℕ). Gives file x (items_in text items) nil k m nodes) file context n top none gives)
 
-is_fault : (file : List ℕ) (items : Items) (fault : OpenFault) → GivesFault file (top_context file) items 0 fault → IsNodesFault file items fault
+is_fault : (file : List ℕ) (items : Items) (fault : OpenFault) → GivesFault file (top_context file) items 0 fault → IfSome (open_fault fault) (IsNodesFault file items)
 is_fault file items (Book fault) gives = gives
 is_fault file items NoMemory gives = tt
 
 pub document_fails : (file text : List ℕ) (items : List Src) (context : Context) (n : ℕ) (fault : OpenFault) → context ≡ top_context file → n ≡ 0 → GivesFault file context (items_in text items) n fault
-    → IsNodesFault file (items_in text items) fault
+    → IfSome (open_fault fault) (IsNodesFault file (items_in text items))
 document_fails file text items context n fault top none gives =
     is_fault file (items_in text items) fault (moved (λ (x : Context) (k : ℕ). GivesFault file x (items_in text items) k fault) file context n top none gives)

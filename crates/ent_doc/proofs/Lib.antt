@@ -14,4 +14,5 @@ mod AttributeLemmas
 mod OwnLemmas
 pub mod OpeningLemmas
 pub mod OnceLemmas
+mod SomeOpening
 pub mod Theorems

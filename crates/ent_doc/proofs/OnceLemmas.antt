@@ -3,33 +3,13 @@ use Rattle.std.proofs.Common.{◌≡◌, ◌∙◌, ℕ, List, Option, Some, Non
 use Rattle.xt_spec.specs.Tree.{Items}
 use Rattle.xt_spec.specs.Reading.{document, IsReading}
 use Rattle.xt_spec.specs.Content.{Content, HasContent}
-use Rattle.xt_read.specs.declared.unread.Unread.{Unread}
-use Rattle.xt_read.specs.declared.unread.Unread.TheVariants as unread
-use Rattle.xt_read.specs.declared.front.FileRole.TheVariants as role
-use Rattle.xt_read.specs.Faults.{IsFaultOf}
-use Rattle.xt_read.proofs.Theorems.{one_tree, no_fault, one_fault}
+use Rattle.xt_read.proofs.Theorems.{one_tree, no_first_fault, one_first_fault}
 use Rattle.xt_value.proofs.Theorems.{content_unique}
 use Rattle.bk_spec.specs.Node.{Nodes, has_inclusion}
 use Rattle.bk_spec.specs.Fault.{Fault}
 use Rattle.bk_spec.specs.DocumentNodes.{nodes_of}
 use Rattle.bk_spec.specs.Opening.{top_context, GivesNodes, IsOpen, IsUnopened, declares, faulty, includes}
-use Rattle.ent_doc.specs.Opening.{fault_of_reading, IsDocumentFault, no_reading, unopened}
-
--- ---- the fault of a reading
-
-some_fault : (file : List ℕ) (cause : Unread) (fault : Fault) → fault_of_reading file cause ≡ Some fault → cause ≡ unread.NoMemory → ⊥
-some_fault file cause fault is none =
-    let bad : None ≡ Some fault = ap (fault_of_reading file) (sym none) ∙ is in
-    absurd (cc)
-
-reads_or_not : (file bytes : List ℕ) (items : Items) (cause : Unread) (fault : Fault) → IsReading document bytes items → IsFaultOf role.Document bytes cause → fault_of_reading file cause ≡ Some fault → ⊥
-reads_or_not file bytes items cause fault reading is told = some_fault file cause fault told (no_fault role.Document bytes items cause reading is)
-
-same_causes : (file bytes : List ℕ) (c d : Unread) (a b : Fault) → IsFaultOf role.Document bytes c → IsFaultOf role.Document bytes d → fault_of_reading file c ≡ Some a → fault_of_reading file d ≡ Some b → a ≡ b
-same_causes file bytes c d a b first second told also =
-    let same : c ≡ d = one_fault role.Document bytes c d first second (some_fault file c a told) (some_fault file d b also) in
-    let faults : ◌≡◌ {A = Option Fault} (Some a) (Some b) = sym told ∙ ap (fault_of_reading file) same ∙ also in
-    cc
+use Rattle.bk_spec.specs.FirstFault.{fault_of_reading, IsDocumentFault, no_reading, unopened}
 
 -- ---- the fault of items
 
@@ -73,15 +53,15 @@ no_unopened file items nodes _ gives apart (includes others also found) =
 -- ---- the whole
 
 pub document_fault_once : (file bytes : List ℕ) (a b : Fault) → IsDocumentFault file bytes a → IsDocumentFault file bytes b → a ≡ b
-document_fault_once file bytes a b (no_reading c is told) (no_reading d also same) = same_causes file bytes c d a b is also told same
-document_fault_once file bytes a b (no_reading c is told) (unopened items reading none) = absurd (reads_or_not file bytes items c a reading is told)
-document_fault_once file bytes a b (unopened items reading none) (no_reading c is told) = absurd (reads_or_not file bytes items c b reading is told)
+document_fault_once file bytes a b (no_reading c is told) (no_reading d also same) = told ∙ ap (fault_of_reading file) (one_first_fault document bytes c d is also) ∙ sym same
+document_fault_once file bytes a b (no_reading c is told) (unopened items reading none) = absurd (no_first_fault document bytes items c reading is)
+document_fault_once file bytes a b (unopened items reading none) (no_reading c is told) = absurd (no_first_fault document bytes items c reading is)
 document_fault_once file bytes a b (unopened i first none) (unopened j second also) =
     let same : i ≡ j = one_tree bytes i j first second in
     unopened_once file j a b (subst (λ (items : Items). IsUnopened file items a) same none) also
 
 pub open_has_no_fault : (file bytes : List ℕ) (items : Items) (nodes : Nodes) (fault : Fault) → IsOpen file bytes items nodes → IsDocumentFault file bytes fault → ⊥
-open_has_no_fault file bytes items nodes fault opens (no_reading c is told) = reads_or_not file bytes items c fault opens.reading is told
+open_has_no_fault file bytes items nodes fault opens (no_reading c is told) = no_first_fault document bytes items c opens.reading is
 open_has_no_fault file bytes items nodes fault opens (unopened others reading none) =
     let same : others ≡ items = one_tree bytes others items reading opens.reading in
     no_unopened file items nodes fault opens.gives opens.apart (subst (λ (i : Items). IsUnopened file i fault) same none)

@@ -1,5 +1,5 @@
 //! The nodes of the items of a document.
-ghost use Rattle.std.specs.Prelude.{◌≡◌, [], IfOk, IfErr, length, Ok};
+ghost use Rattle.std.specs.Prelude.{◌≡◌, [], IfOk, IfErr, IfSome, length, Ok};
 ghost use Rattle.xt_spec.specs.Content.{Content, HasContent};
 ghost use Rattle.bk_spec.specs.DocumentNodes.{nodes_of};
 ghost use Rattle.bk_spec.specs.Opening.{top_context};
@@ -10,6 +10,7 @@ ghost use Rattle.bk_info.specs.Nodes.{nodes_in};
 ghost use Rattle.bk_info.specs.Paths.{paths_in};
 ghost use Rattle.bk_info.specs.Vias.{HaveVia};
 ghost use Rattle.ent_doc.specs.Faults.{IsNodesFault};
+ghost use Rattle.ent_doc.specs.Opening.{open_fault};
 
 use crate::fault::OpenFault;
 use crate::source::Source;
@@ -52,7 +53,7 @@ pub fn document_nodes(
     ensures value { IfOk result (λ nodes. (content : Content) → HasContent (items_in text.now items.now) content → nodes_of file.now (top_context file.now) 0 content ≡ Ok (nodes_in nodes)) }
     ensures paths { IfOk result (λ nodes. (content : Content) → HasContent (items_in text.now items.now) content → paths_in nodes ≡ node_paths [] 0 (items_in text.now items.now)) }
     ensures via { IfOk result (HaveVia []) }
-    ensures fault { IfErr result (IsNodesFault file.now (items_in text.now items.now)) }
+    ensures fault { IfErr result (λ e. IfSome (open_fault e) (IsNodesFault file.now (items_in text.now items.now))) }
 {
     let source = Source { file, text };
     let context = top(alloc, file)?;

@@ -22,5 +22,8 @@ mod work;
 
 pub use document::document_nodes;
 pub use fault::OpenFault;
-pub use laws::{a_document_opens_once, an_open_document_has_no_fault, one_document_fault};
+pub use laws::{
+    a_document_opens_once, a_document_opens_or_has_a_fault, an_open_document_has_no_fault,
+    one_document_fault,
+};
 pub use opening::{Opened, open_document};

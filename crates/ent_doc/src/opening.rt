@@ -1,6 +1,7 @@
 //! A document that is opened: it is read, and its nodes are made.
-ghost use Rattle.std.specs.Prelude.{◌≡◌, ◌≤◌, ◌+◌, [], Some, IfOk, IfErr, length};
+ghost use Rattle.std.specs.Prelude.{◌≡◌, ◌≤◌, ◌+◌, [], Some, IfOk, IfErr, IfSome, length};
 ghost use Rattle.std.specs.Str.{IsUtf8};
+ghost use Rattle.xt_spec.specs.Limit.{most_file_bytes};
 ghost use Rattle.xt_spec.specs.Reading.{document, IsReading};
 ghost use Rattle.bk_spec.specs.Opening.{IsOpen, IsUnopened};
 ghost use Rattle.xt_tree.specs.Meaning.{items_in};
@@ -9,7 +10,8 @@ ghost use Rattle.bk_spec.specs.NodePaths.{node_paths};
 ghost use Rattle.bk_info.specs.Nodes.{nodes_in};
 ghost use Rattle.bk_info.specs.Paths.{paths_in};
 ghost use Rattle.bk_info.specs.Vias.{HaveVia};
-ghost use Rattle.ent_doc.specs.Opening.{IsReadingFault, IsItemsFault, IsOpenFault};
+ghost use Rattle.bk_spec.specs.FirstFault.{IsDocumentFault};
+ghost use Rattle.ent_doc.specs.Opening.{open_fault, IsReadingFault};
 
 use crate::document::document_nodes;
 use crate::fault::OpenFault;
@@ -70,13 +72,13 @@ fn opened_nodes(
     text: &str,
     items: &[Src],
 ) -> Result<Items<Node>, OpenFault>
-    requires size { length text.now ≤ 4194304 }
+    requires size { length text.now ≤ most_file_bytes }
     requires reading { IsReading document text.now (items_in text.now items.now) }
     requires place { AreInPlace text.now 0 (marks_of items.now) (length text.now) }
     ensures value { IfOk result (λ nodes. IsOpen file.now text.now (items_in text.now items.now) (nodes_in nodes)) }
     ensures paths { IfOk result (λ nodes. paths_in nodes ≡ node_paths [] 0 (items_in text.now items.now)) }
     ensures via { IfOk result (HaveVia []) }
-    ensures fault { IfErr result (IsItemsFault file.now (items_in text.now items.now)) }
+    ensures fault { IfErr result (λ e. IfSome (open_fault e) (IsUnopened file.now (items_in text.now items.now))) }
 {
     if !has_content(text, items) {
         return Err(not_yet(file)?);
@@ -95,12 +97,12 @@ pub fn open_document<L: Ledger>(
     bytes: &[u8],
     steps: &mut Steps<L>,
 ) -> Result<Opened, OpenFault>
-    requires fits { length bytes.now ≤ 4194304 }
+    requires fits { length bytes.now ≤ most_file_bytes }
     ensures value { IfOk result (λ opened. IsOpen file.now bytes.now (items_in bytes.now opened.items) (nodes_in opened.nodes)) }
     ensures place { IfOk result (λ opened. AreInPlace bytes.now 0 (marks_of opened.items) (length bytes.now)) }
     ensures paths { IfOk result (λ opened. paths_in opened.nodes ≡ node_paths [] 0 (items_in bytes.now opened.items)) }
     ensures via { IfOk result (λ opened. HaveVia [] opened.nodes) }
-    ensures fault { IfErr result (IsOpenFault file.now bytes.now) }
+    ensures fault { IfErr result (λ e. IfSome (open_fault e) (IsDocumentFault file.now bytes.now)) }
     ensures count { steps.new ≡ steps.old + length bytes.now }
 {
     match read_document(alloc, bytes, steps) {

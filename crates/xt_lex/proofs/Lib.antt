@@ -24,5 +24,6 @@ pub mod Places
 pub mod Longest
 pub mod Unique
 pub mod Spelled
+pub mod SomeFront
 pub mod Theorems
 pub mod Examples

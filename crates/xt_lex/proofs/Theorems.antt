@@ -3,6 +3,8 @@
 --   token_longest        a text that spells a token is the longest one at the front of itself and what may follow it
 --   spells_utf8          a token is UTF-8, so a text may be cut behind one: front_boundary
 --   front_some           a token takes at least one byte
+--   some_front           a token stands at the front of a text, or none does
+--   some_chars           so many bytes stand before the first character that is no Char
 --   attribute_unique     a text begins with at most one attribute
 --   no_attribute_at_end  none begins where the tag ends
 --   name_unique          a text begins with at most one QName that ends there
@@ -18,6 +20,7 @@ pub use Rattle.xt_lex.proofs.Declarations.{declaration_unique}
 pub use Rattle.xt_lex.proofs.Fronts.{front_some}
 pub use Rattle.xt_lex.proofs.Longest.{token_longest}
 pub use Rattle.xt_lex.proofs.Subsets.{subset_unique}
+pub use Rattle.xt_lex.proofs.SomeFront.{some_front, some_chars}
 pub use Rattle.xt_lex.proofs.Spelled.{predefined_entity, stands_spells, space_spells}
 pub use Rattle.xt_lex.proofs.Texts.{spells_utf8, front_boundary}
 pub use Rattle.xt_lex.proofs.Unique.{attribute_unique, no_attribute_at_end, name_unique, tag_name_ends, end_tag_name_ends, tag_unique, stands_unique, names_no_entity}

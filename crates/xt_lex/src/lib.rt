@@ -26,7 +26,7 @@ pub use attribute::{AttrSrc, next_attribute};
 pub use chars::is_char;
 pub use data::chars_len;
 pub use declaration::{Declaration, read_declaration};
-pub use laws::one_subset;
+pub use laws::{a_token_or_none, one_subset};
 pub use names::{is_name, is_ncname, is_qname, name_at};
 pub use reference::referenced_char;
 pub use steps::Steps;

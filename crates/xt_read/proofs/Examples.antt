@@ -9,14 +9,16 @@ use Rattle.xt_spec.specs.Tree.{Items, nil, leaf, text_item}
 use Rattle.xt_lex.proofs.Longest.{token_longest}
 use Rattle.xt_lex.proofs.Spelled.{plain_is_ncname}
 use Rattle.xt_lex.proofs.Utf8.{ascii}
-use Rattle.xt_read.specs.Faults.{here, past, IsFirstNoChar, IsFaultOf}
-use Rattle.xt_read.specs.Front.{NoDeclared, BeginsBody, IsFront}
+use Rattle.xt_read.specs.Faults.{here, past, IsFaultOf}
+use Rattle.xt_spec.specs.Front.{NoDeclared, BeginsBody}
+use Rattle.xt_spec.specs.FirstFault.{not_well_formed, IsFirstNoChar, IsFirstFault}
+use Rattle.xt_read.specs.Front.{form_of, IsFront}
 use Rattle.xt_read.specs.Run.{Tok, start_tok, end_tok, IsToken, State, document_body, begin}
 use Rattle.xt_read.specs.declared.front.FileRole.TheVariants as file
 use Rattle.xt_read.specs.declared.front.MarkupRole.TheVariants as role
 use Rattle.xt_read.specs.declared.unread.Unread.TheVariants as unread
 use Rattle.xt_read.proofs.Fronts.{after_none, unmarked, is_front, one_begin}
-use Rattle.xt_read.proofs.NoFaults.{no_fault, one_fault}
+use Rattle.xt_read.proofs.FirstFaults.{first_of, no_first_fault, one_first_fault}
 use Rattle.xt_read.proofs.PlainTexts.{no_first_no_char, one_first_no_char}
 
 no_declaration : (form : Declaration → Bool) → NoDeclared form (codes "<")
@@ -26,15 +28,15 @@ none_in_tag : (form : Declaration → Bool) → NoDeclared form (codes "<a/>")
 none_in_tag form d = let h = d.stands ∙ ap (λ t. t ++ d.rest) d.is.spelled in cc
 
 -- a body begins at 0 where nothing stands in front
-begins_at_once : BeginsBody role.Document (codes "<") 0
+begins_at_once : BeginsBody (form_of role.Document) (codes "<") 0
 begins_at_once = record { len = 0; takes = inr (no_declaration _, refl); to_is = refl }
 
 -- .. behind a byte order mark
-begins_behind_mark : BeginsBody role.Entity (mark ++ codes "<a/>") 3
+begins_behind_mark : BeginsBody (form_of role.Entity) (mark ++ codes "<a/>") 3
 begins_behind_mark = record { len = 0; takes = inr (none_in_tag _, refl); to_is = refl }
 
 -- .. and nowhere else
-begins_not_behind_token : BeginsBody role.Document (codes "<") 1 → ⊥
+begins_not_behind_token : BeginsBody (form_of role.Document) (codes "<") 1 → ⊥
 begins_not_behind_token begins = omega (arith, one_begin role.Document (codes "<") 0 1 begins_at_once begins)
 
 -- the first character that is no Char stands behind one byte
@@ -105,14 +107,14 @@ none_in_crossed form d =
     let wrong : ◌≡◌ {A = ℕ} 0x61 0x3F = ap (λ l. get_or l 1 0) (d.stands ∙ ap (λ t. t ++ d.rest) d.is.spelled) in
     omega (arith, wrong)
 
-begins_crossed : BeginsBody role.Document crossed 0
+begins_crossed : BeginsBody (form_of role.Document) crossed 0
 begins_crossed = record { len = 0; takes = inr (none_in_crossed _, refl); to_is = refl }
 
 nothing_in_front : IsFront role.Document crossed nil 0
 nothing_in_front = is_front role.Document crossed nil 0 (unmarked _ document_body crossed nil 0 refl (after_none _ document_body crossed (none_in_crossed _))) begins_crossed
 
-fault_at_the_end_tag : IsFaultOf file.Document crossed (unread.NotWellFormed 3)
-fault_at_the_end_tag = (
+fault_of_the_steps : IsFaultOf file.Document crossed (unread.NotWellFormed 3)
+fault_of_the_steps = (
   ascii crossed refl,
   record {
     front = nil;
@@ -129,14 +131,14 @@ fault_at_the_end_tag = (
   },
 )
 
--- .. and nowhere else
-no_fault_at_the_start_tag : IsFaultOf file.Document crossed (unread.NotWellFormed 0) → ⊥
-no_fault_at_the_start_tag is =
-    let same : unread.NotWellFormed 0 ≡ unread.NotWellFormed 3 = one_fault file.Document crossed (unread.NotWellFormed 0) (unread.NotWellFormed 3) is fault_at_the_end_tag (λ e. cc) (λ e. cc) in
-    cc
+-- the end-tag may not stand: its place is that of the first fault
+fault_at_the_end_tag : IsFirstFault document crossed (not_well_formed 3)
+fault_at_the_end_tag = first_of file.Document crossed (unread.NotWellFormed 3) fault_of_the_steps
+
+-- .. and no other place is
+no_fault_at_the_start_tag : IsFirstFault document crossed (not_well_formed 0) → ⊥
+no_fault_at_the_start_tag is = let same : not_well_formed 0 ≡ not_well_formed 3 = one_first_fault document crossed (not_well_formed 0) (not_well_formed 3) is fault_at_the_end_tag in cc
 
 -- .. so it reads as nothing
 no_reading_of_crossed : (items : Items) → IsReading document crossed items → ⊥
-no_reading_of_crossed items is =
-    let none = no_fault file.Document crossed items (unread.NotWellFormed 3) is fault_at_the_end_tag in
-    cc
+no_reading_of_crossed items is = no_first_fault document crossed items (not_well_formed 3) is fault_at_the_end_tag

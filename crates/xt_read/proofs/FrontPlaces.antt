@@ -18,7 +18,8 @@ use Rattle.xt_lex.specs.declared.token.Token.{Token}
 use Rattle.xt_lex.specs.declared.token.Span.{Span}
 use Rattle.xt_tree.specs.Meaning.{at_span, item_of, items_in}
 use Rattle.xt_read.specs.Steps.{IsTokenAt}
-use Rattle.xt_read.specs.Front.{markup_role_of, form_of, body_for, NoDeclared, IsForeign, after_mark, BeginsBody, IsFront}
+use Rattle.xt_spec.specs.Front.{NoDeclared, IsForeign, after_mark, BeginsBody}
+use Rattle.xt_read.specs.Front.{markup_role_of, form_of, body_for, IsFront}
 use Rattle.xt_read.specs.FrontSteps.{IsDeclarationAt, NoDeclarationAt, IsDeclaredAt, front_items, front_len}
 use Rattle.xt_read.specs.declared.front.FileRole.{FileRole}
 use Rattle.xt_read.specs.declared.front.FileRole.TheVariants as file
@@ -123,7 +124,7 @@ after form body text len (Some span) is =
     (leaf gap (at_span text span) nil, length (at_span text span), after_declared form body (drop len text) (at_span text span) (drop span.to text) (length (at_span text span)) is.declares is.place.stands refl, span_len text len span is.place, refl)
 
 -- the body begins behind the mark and the declaration
-begins_body : (role : MarkupRole) (text : List ℕ) (len : ℕ) (declared : Option Span) → len ≡ (if starts_with nat_eq text mark then 3 else 0) → MatchOption declared (NoDeclared (form_of role) (drop len text)) (IsDeclaredAt (form_of role) text len) → BeginsBody role text (front_len len declared)
+begins_body : (role : MarkupRole) (text : List ℕ) (len : ℕ) (declared : Option Span) → len ≡ (if starts_with nat_eq text mark then 3 else 0) → MatchOption declared (NoDeclared (form_of role) (drop len text)) (IsDeclaredAt (form_of role) text len) → BeginsBody (form_of role) text (front_len len declared)
 begins_body role text len None size none = record {
   len = 0;
   takes = inr (subst (NoDeclared (form_of role)) (mark_dropped text len size) none, refl);

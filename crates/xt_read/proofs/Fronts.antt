@@ -9,7 +9,8 @@ use Rattle.xt_spec.specs.Tree.{Items, nil, leaf, gap, append, source_text}
 use Rattle.xt_spec.specs.Reading.{mark, DeclaresUtf8, IsMarked, IsDeclared, document, entity, IsOrdered, IsReading}
 use Rattle.xt_lex.proofs.Theorems.{token_longest, declaration_unique}
 use Rattle.xt_read.specs.Run.{Body, document_body, content_body, IsBody, begin, piece_tok, declaration_piece, IsToken}
-use Rattle.xt_read.specs.Front.{NoDeclared, IsForeign, after_mark, markup_role_of, form_of, body_for, mark_len, TakesDeclared, BeginsBody, IsFront}
+use Rattle.xt_spec.specs.Front.{NoDeclared, IsForeign, after_mark, mark_len, TakesDeclared, BeginsBody}
+use Rattle.xt_read.specs.Front.{markup_role_of, form_of, body_for, IsFront}
 use Rattle.xt_read.specs.declared.front.MarkupRole.{MarkupRole}
 use Rattle.xt_read.specs.declared.front.MarkupRole.TheVariants as role
 use Rattle.xt_read.proofs.Runs.{one_list, no_step}
@@ -87,7 +88,7 @@ starts_mark : (rest : List ℕ) → starts_with nat_eq (mark ++ rest) mark ≡ t
 starts_mark rest = refl
 
 -- a text that begins with a mark
-begins_mark : (text : List ℕ) → starts_with nat_eq text mark ≡ true → text ≡ mark ++ drop 3 text
+pub begins_mark : (text : List ℕ) → starts_with nat_eq text mark ≡ true → text ≡ mark ++ drop 3 text
 begins_mark text is = sym (take-append-drop 3 text) ∙ ap (λ t. t ++ drop 3 text) (sym ((bytes_eq-Decides mark (take 3 text)).0 is))
 
 -- what stands in front of a file, in a form
@@ -131,7 +132,7 @@ marked form body text front len to some size after = record {
     only items (inr (starts, main)) joined =
         let h : false ≡ true = sym starts ∙ ap (λ t. starts_with nat_eq t mark) joined ∙ some in absurd (cc)
 
-pub is_front : (role : MarkupRole) (text : List ℕ) (front : Items) (to : ℕ) → IsFrontBy (form_of role) (body_for role) text front to → BeginsBody role text to → IsFront role text front to
+pub is_front : (role : MarkupRole) (text : List ℕ) (front : Items) (to : ℕ) → IsFrontBy (form_of role) (body_for role) text front to → BeginsBody (form_of role) text to → IsFront role text front to
 is_front role.Document text front to is begins = record { opens = is.opens; only = is.only; known = is.known; begins = begins }
 is_front role.Entity text front to is begins = record { opens = is.opens; only = is.only; known = is.known; begins = begins }
 
@@ -161,7 +162,7 @@ one_len form text m n (inl (d, is)) (inr (none, zero)) = absurd (none d)
 one_len form text m n (inr (none, zero)) (inl (e, also)) = absurd (none e)
 one_len form text m n (inr (none, zero)) (inr (never, also)) = zero ∙ sym also
 
-pub one_begin : (role : MarkupRole) (text : List ℕ) (m n : ℕ) → BeginsBody role text m → BeginsBody role text n → m ≡ n
+pub one_begin : (role : MarkupRole) (text : List ℕ) (m n : ℕ) → BeginsBody (form_of role) text m → BeginsBody (form_of role) text n → m ≡ n
 one_begin role text m n a b = a.to_is ∙ ap (λ k. mark_len text + k) (one_len (form_of role) (after_mark text) a.len b.len a.takes b.takes) ∙ sym b.to_is
 
 -- ---- one reading

@@ -21,4 +21,8 @@ mod Cuts
 mod TagValues
 mod LeafContent
 mod ItemContent
+mod Predefined
+mod SomeReading
+mod FirstFaults
+mod SomeContent
 pub mod Theorems

@@ -114,7 +114,7 @@ one_at text at s TooDeep Encoding x y some more = absurd y
 one_place : (text : List ℕ) (m n : ℕ) → m ≤ length text → n ≤ length text → drop m text ≡ drop n text → m ≡ n
 one_place text m n first second same = omega (arith, first, second, sym (length-drop m text) ∙ ap length same ∙ length-drop n text)
 
-one_body_fault : (body : Body) (text : List ℕ) (from : ℕ) (a b : Unread) → IsBodyFault body text from a → IsBodyFault body text from b → (a ≡ NoMemory → ⊥) → (b ≡ NoMemory → ⊥) → a ≡ b
+pub one_body_fault : (body : Body) (text : List ℕ) (from : ℕ) (a b : Unread) → IsBodyFault body text from a → IsBodyFault body text from b → (a ≡ NoMemory → ⊥) → (b ≡ NoMemory → ⊥) → a ≡ b
 one_body_fault body text from a b x y some more =
     let stop = one_stop (begin body) x.state y.state (drop from text) (drop x.at text) (drop y.at text) x.passes y.passes (fault_stops text x.at x.state a x.halts some) (fault_stops text y.at y.state b y.halts more) in
     let at : x.at ≡ y.at = one_place text x.at y.at x.within y.within stop.1 in

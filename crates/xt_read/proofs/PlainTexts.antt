@@ -17,7 +17,7 @@ use Rattle.xt_lex.specs.Data.{is_no_char, AreFirstChars, BeginsNoChar}
 use Rattle.xt_lex.proofs.Spelling.{list_all_behind, spelt_joined}
 use Rattle.xt_lex.proofs.Utf8.{char_scalar}
 use Rattle.xt_tree.specs.Meaning.{at_span}
-use Rattle.xt_read.specs.Faults.{IsFirstNoChar}
+use Rattle.xt_spec.specs.FirstFault.{IsFirstNoChar}
 use Rattle.xt_read.specs.FrontSteps.{text_part, one_text_items}
 
 -- ---- characters

@@ -1,5 +1,5 @@
 -- Whether the attributes of a tag have values, one by one.
-use Rattle.std.proofs.Common.{◌≡◌, ◌≢◌, ◌∙◌, ℕ, ◌+◌, ◌-◌, ◌<◌, ◌≤◌, List, [], ◌∷◌, ◌++◌, length, take, drop, get_or, refl, sym, ap, subst, Bool, true, false, arith, append_assoc, IsTrue, ◌↔◌, IsUtf8, inl, inr}
+use Rattle.std.proofs.Common.{◌⊎◌, ◌≡◌, ◌≢◌, ◌∙◌, ℕ, ◌+◌, ◌-◌, ◌<◌, ◌≤◌, List, [], ◌∷◌, ◌++◌, length, take, drop, get_or, refl, sym, ap, subst, Bool, true, false, arith, append_assoc, IsTrue, ◌↔◌, IsUtf8, inl, inr}
 use Rattle.std.proofs.lemmas.List.{length-append, length-take, length-drop, drop_more, drop_all, drop-drop, take-append-drop, take_at}
 use Rattle.std.proofs.lemmas.Str.{IsCharBoundary-before_ascii}
 use Rattle.xt_read.proofs.TokenSteps.{cut_behind, first_of}
@@ -13,6 +13,7 @@ use Rattle.xt_tree.specs.declared.source.Tag.{Tag as TagSrc}
 use Rattle.xt_tree.specs.Meaning.{at_span}
 use Rattle.xt_tree.specs.Places.{AreAttributesAt, IsTagAt, ending}
 use Rattle.xt_tree.proofs.PlaceLemmas.{behind, attribute_texts, attribute_value_text, attributes_stand, tag_stands}
+use Rattle.xt_read.proofs.ValueParts.{parts_or_none}
 use Rattle.xt_read.specs.References.{AreSingles, HasParts, IsUnquoted}
 use Rattle.xt_read.specs.ContentTest.{HasValue, StandsIn, StandAll}
 
@@ -166,3 +167,9 @@ unquoted_is text span value is within sliced =
     let n : span.to - 1 - (span.from + 1) ≡ length inner = omega (arith, size, long) in
     let same : value ≡ inner = sliced ∙ ap (λ n. take n (drop (span.from + 1) text)) n ∙ ap (take (length inner)) there ∙ take_at inner (q ∷ drop span.to text) (length inner) refl in
     (q, quote, e ∙ ap (λ v. (q ∷ v) ++ q ∷ []) (sym same))
+
+pub value_or_none : (quoted : List ℕ) → IsAttValue quoted → ((v : List ℕ) × HasAttributeValue quoted v) ⊎ ¬ ((v : List ℕ) × HasAttributeValue quoted v)
+value_or_none quoted (q, singles, quote, are, spelled) = elim (parts_or_none q singles are) [
+  | inl has ↦ inl (value_from quoted (concat singles) q quote spelled has)
+  | inr never ↦ inr (λ some. never (value_to quoted (concat singles) q spelled some))
+]

@@ -1,5 +1,5 @@
 -- The parts of a value, read one behind the other.
-use Rattle.std.proofs.Common.{◌≡◌, ◌∙◌, ℕ, List, [], ◌∷◌, ◌++◌, refl, sym, ap, subst, Bool, true, false, not, ◌&&◌, ◌⊎◌, inl, inr, ⊎_elim, append_assoc, codes, eqb, eqb-true, arith, lit<}
+use Rattle.std.proofs.Common.{encode_utf8, ◌≡◌, ◌∙◌, ℕ, List, [], ◌∷◌, ◌++◌, refl, sym, ap, subst, Bool, true, false, not, ◌&&◌, ◌⊎◌, inl, inr, ⊎_elim, append_assoc, codes, eqb, eqb-true, arith, lit<}
 use Rattle.std.specs.List.{AllByRecursion, list_all, concat}
 use Rattle.std.proofs.lemmas.Bool.{cases_Bool}
 use Rattle.std.proofs.lemmas.Bool.Decides.{nat_tests}
@@ -9,6 +9,8 @@ use Rattle.xt_spec.specs.Reference.{NamesChar, StandsFor, is_decimal_digit, is_h
 use Rattle.xt_spec.specs.Tag.{IsValuePart, IsReference, is_value_char}
 use Rattle.xt_spec.specs.Value.{ValuePart, characters_part, character_part, value_parts_text, begins_with_characters, AreValueParts}
 use Rattle.xt_lex.proofs.Spelling.{bytes_lack, spelt_joined, spelt_char, list_all_behind, list_all_weaker}
+use Rattle.xt_read.proofs.Predefined.{is_predefined}
+use Rattle.xt_lex.proofs.Theorems.{names_no_entity}
 use Rattle.xt_read.specs.References.{is_other, LacksByte, HasParts, AreSingles, Edge, BeginsReference, HasNoParts, IsSame, IsUpToSemicolon}
 
 both_parts : (a b : Bool) → a && b ≡ true → (a ≡ true) × (b ≡ true)
@@ -261,3 +263,47 @@ no_reference text (tail, begins) lacks q singles are has =
     let whole : text ≡ shape.body ++ 0x3B ∷ concat ss = sym left.1 ∙ ap (λ t. t ++ concat ss) shape.is ∙ append_assoc shape.body (0x3B ∷ []) (concat ss) in
     let parts = list_all_behind (is_other 0x3B) shape.body (0x3B ∷ concat ss) (subst (LacksByte 0x3B) whole lacks) in
     (other_than 0x3B 0x3B (concat ss) parts).0 refl
+
+-- ---- a value has parts, or none
+
+one_more_character : (q : ℕ) (s : List ℕ) (ss : List (List ℕ)) → AllByRecursion (IsValuePart q) ss → (c : ℕ) → is_value_char q c ≡ true → s ≡ encode_utf8 c → (HasParts q (concat ss) → HasParts q (s ++ concat ss)) × (HasParts q (s ++ concat ss) → HasParts q (concat ss))
+one_more_character q s ss are c is e =
+    let rest = strip q ss are in
+    let spelt : IsSpeltBy (λ cs. list_all (is_value_char q) cs) (s ++ rest.run) = spelt_joined (is_value_char q) s rest.run (subst (IsSpeltBy (λ cs. list_all (is_value_char q) cs)) (sym e) (spelt_char (is_value_char q) c is)) rest.spelt in
+    let joined : s ++ concat ss ≡ (s ++ rest.run) ++ rest.rest = ap (λ t. s ++ t) rest.joined ∙ sym (append_assoc s rest.run rest.rest) in (
+      (λ has. subst (HasParts q) (sym joined) (parts_before q (s ++ rest.run) rest.rest spelt rest.edge (parts_behind q rest.run rest.rest (chars_lack q rest.run rest.spelt) rest.edge (subst (HasParts q) rest.joined has)))),
+      (λ has. subst (HasParts q) (sym rest.joined) (parts_before q rest.run rest.rest rest.spelt rest.edge (parts_behind q (s ++ rest.run) rest.rest (chars_lack q (s ++ rest.run) spelt) rest.edge (subst (HasParts q) joined has)))),
+    )
+
+stands_or_not : (s : List ℕ) → IsReference s → ((c : ℕ) × StandsFor s c) ⊎ ((c : ℕ) → ¬ StandsFor s c)
+stands_or_not s (inl (c, names)) = inl (c, inl names)
+stands_or_not s (inr entity) = elim (is_predefined s) [
+  | inl known ↦ inl (known.0, inr known.1)
+  | inr none ↦ inr (λ c stands. elim stands [
+    | inl names ↦ names_no_entity s c names entity
+    | inr known ↦ none c known
+  ])
+]
+
+with_reference : (q : ℕ) (s : List ℕ) (ss : List (List ℕ)) → IsReference s → (HasParts q (concat ss) ⊎ ¬ HasParts q (concat ss)) → HasParts q (s ++ concat ss) ⊎ ¬ HasParts q (s ++ concat ss)
+with_reference q s ss is rest = by (stands_or_not s is) rest
+  where
+    shape : IsShaped s
+    shape = reference_shaped s is
+
+    at : HasParts q (s ++ concat ss) → ((c : ℕ) × StandsFor s c) × HasParts q (concat ss)
+    at has = parts_at_reference q (s ++ concat ss) s (concat ss) (shape.rest ++ concat ss) shape refl (ap (λ t. t ++ concat ss) shape.begins) has
+
+    by : (((c : ℕ) × StandsFor s c) ⊎ ((c : ℕ) → ¬ StandsFor s c)) → (HasParts q (concat ss) ⊎ ¬ HasParts q (concat ss)) → HasParts q (s ++ concat ss) ⊎ ¬ HasParts q (s ++ concat ss)
+    by (inr none) others = inr (λ has. let stands = (at has).0 in none stands.0 stands.1)
+    by (inl stands) (inr never) = inr (λ has. never (at has).1)
+    by (inl (c, stands)) (inl (parts, are, joined)) = inl (character_part s c ∷ parts, (stands, are), ap (λ t. s ++ t) joined)
+
+with_single : (q : ℕ) (s : List ℕ) (ss : List (List ℕ)) → AllByRecursion (IsValuePart q) ss → IsValuePart q s → (HasParts q (concat ss) ⊎ ¬ HasParts q (concat ss)) → HasParts q (s ++ concat ss) ⊎ ¬ HasParts q (s ++ concat ss)
+with_single q s ss are (inr is) rest = with_reference q s ss is rest
+with_single q s ss are (inl (c, is, e)) (inl has) = inl ((one_more_character q s ss are c is e).0 has)
+with_single q s ss are (inl (c, is, e)) (inr never) = inr (λ has. never ((one_more_character q s ss are c is e).1 has))
+
+pub parts_or_none : (q : ℕ) (singles : List (List ℕ)) → AllByRecursion (IsValuePart q) singles → HasParts q (concat singles) ⊎ ¬ HasParts q (concat singles)
+parts_or_none q [] are = inl (nothing_left q)
+parts_or_none q (s ∷ ss) are = with_single q s ss are.1 are.0 (parts_or_none q ss are.1)

@@ -1,6 +1,7 @@
--- Why a text is not read on, and the first fault of a file; the order of faults is of this project, what is well-formed is
--- said by the readings.
+-- Why the reader does not read a text on, and the fault that it answers; that this is the first fault of the file is proved
+-- (`proofs/FirstFaults`). Want of memory is told of any file.
 --
+--   reading_fault  the fault that an answer of the code is; none where memory ran out
 --   fault_at       a halt at a place, as a fault
 --   Passes         a front of the text is read, token by token
 --   IsHalt         the text is not read on in this state: no token stands, or one that may not, or it ends too early
@@ -8,18 +9,17 @@
 --   IsHaltAt       the fault of one place
 --   IsBodyFault    the first fault of a body
 --   IsMarkupFault  the first fault of a text of markup: of what stands in front, or of its body
---   IsFirstNoChar  so many bytes stand before the first character that no document may hold
 --   IsPlainFault   the first fault of a text that is read as one text
 --   IsTextFault    the first fault of a text in a role
 --   IsFaultOf      the first fault of a file
-use Rattle.std.specs.Prelude.{◌≡◌, ◌≢◌, ◌≤◌, ◌⊎◌, ℕ, true, false, List, [], ◌∷◌, ◌++◌, drop, length, Some, None, IsUtf8, encode_utf8_all}
-use Rattle.std.specs.List.{list_all}
-use Rattle.std.specs.Str.{chars, IsValidUpTo}
-use Rattle.xt_spec.specs.Char.{is_char}
+use Rattle.std.specs.Prelude.{◌≡◌, ◌≢◌, ◌≤◌, ◌⊎◌, ℕ, true, false, List, [], drop, length, Option, Some, None, IsUtf8}
+use Rattle.std.specs.Str.{IsValidUpTo}
 use Rattle.xt_spec.specs.Token.{NoFront}
 use Rattle.xt_read.specs.Run.{Body, Tok, tok_text, IsToken, State, begin, is_too_deep, step, IsWhole}
 use Rattle.xt_spec.specs.Tree.{Items}
-use Rattle.xt_read.specs.Front.{form_of, body_for, after_mark, IsForeign, IsFront}
+use Rattle.xt_spec.specs.Front.{after_mark, IsForeign}
+use Rattle.xt_spec.specs.FirstFault.{ReadingFault, not_utf8, encoding, not_well_formed, too_deep, IsFirstNoChar}
+use Rattle.xt_read.specs.Front.{form_of, body_for, IsFront}
 use Rattle.xt_read.specs.declared.front.FileRole.{FileRole}
 use Rattle.xt_read.specs.declared.front.FileRole.TheVariants as file
 use Rattle.xt_read.specs.declared.front.MarkupRole.{MarkupRole}
@@ -28,6 +28,13 @@ use Rattle.xt_read.specs.declared.unread.Unread.{Unread}
 use Rattle.xt_read.specs.declared.unread.Unread.TheVariants as unread
 use Rattle.xt_read.specs.declared.unread.Halt.{Halt}
 use Rattle.xt_read.specs.declared.unread.Halt.TheVariants as halt
+
+abbrev pub reading_fault : Unread → Option ReadingFault
+reading_fault (unread.NotUtf8 at) = Some (not_utf8 at)
+reading_fault unread.Encoding = Some encoding
+reading_fault (unread.NotWellFormed at) = Some (not_well_formed at)
+reading_fault unread.TooDeep = Some too_deep
+reading_fault unread.NoMemory = None
 
 abbrev pub fault_at : Halt → ℕ → Unread
 fault_at halt.Misplaced at = unread.NotWellFormed at
@@ -88,17 +95,6 @@ IsMarkupFault role text unread.Encoding = IsForeign (form_of role) (after_mark t
 IsMarkupFault role text (unread.NotUtf8 at) = ⊥
 IsMarkupFault role text (unread.NotWellFormed at) = IsBehindFront role text (unread.NotWellFormed at)
 IsMarkupFault role text unread.TooDeep = IsBehindFront role text unread.TooDeep
-
--- Of the text's characters the first that is no [2] Char stands behind so many bytes. A byte order mark in front counts as
--- a character: it is a Char.
-pub record IsFirstNoChar (text : List ℕ) (at : ℕ) : Type 0 where
-  pub before : List ℕ
-  pub character : ℕ
-  pub behind : List ℕ
-  pub are : chars text ≡ before ++ character ∷ behind
-  pub pass : list_all is_char before ≡ true
-  pub fails : is_char character ≡ false
-  pub at_is : at ≡ length (encode_utf8_all before)
 
 -- the first fault of a text that is read as one text: such a character; nothing else is asked of it
 abbrev pub IsPlainFault : List ℕ → Unread → Type 0

@@ -13,7 +13,8 @@ use Rattle.xt_lex.specs.declared.token.Span.{Span}
 use Rattle.xt_spec.specs.Tree.{Items, nil, leaf, text_item, gap}
 use Rattle.xt_tree.specs.Meaning.{at_span}
 use Rattle.xt_tree.specs.Places.{Mark, span_mark}
-use Rattle.xt_read.specs.Front.{form_of, after_mark, IsForeign}
+use Rattle.xt_spec.specs.Front.{after_mark, IsForeign}
+use Rattle.xt_read.specs.Front.{form_of}
 use Rattle.xt_read.specs.declared.front.MarkupRole.{MarkupRole}
 use Rattle.xt_read.specs.declared.unread.Unread.{Unread}
 use Rattle.xt_read.specs.declared.unread.Unread.TheVariants as unread

@@ -13,6 +13,7 @@
 --   IsRead       a text is read from the beginning, to a whole document or content of these items
 use Rattle.std.specs.Prelude.{◌≡◌, ◌⊎◌, ℕ, nat_lt, Bool, true, false, not, ◌&&◌, ◌||◌, List, [], ◌∷◌, ◌++◌, length, take, drop, codes, bytes_eq, Option, None, Some, if◌then◌else◌}
 use Rattle.std.specs.List.{list_all}
+use Rattle.xt_spec.specs.Limit.{most_levels}
 use Rattle.xt_spec.specs.Char.{is_space}
 use Rattle.xt_spec.specs.Reference.{StandsFor, IsPredefined}
 use Rattle.xt_spec.specs.Name.{IsQName}
@@ -153,7 +154,7 @@ behind_element (Some stage) = Some behind_root
 
 -- no more elements may be open: another would stand at level 129
 abbrev pub is_full : State → Bool
-is_full s = not (nat_lt (length s.opened) 128)
+is_full s = not (nat_lt (length s.opened) most_levels)
 
 -- an element may begin here: at level 128 at most, and at the top of a document only where none came
 abbrev pub has_room : State → Bool

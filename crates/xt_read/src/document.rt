@@ -1,13 +1,13 @@
 //! Documents, external parsed entities and texts: the items of a file in its role, or its first fault.
 
-ghost use Rattle.std.specs.Prelude.{◌≡◌, ◌<◌, ◌+◌, ◌++◌, ◌^◌, length, IfOk, IfErr};
+ghost use Rattle.std.specs.Prelude.{◌≡◌, ◌<◌, ◌+◌, ◌++◌, ◌^◌, length, IfOk, IfErr, IfSome};
 ghost use Rattle.xt_spec.specs.Tree.{source_text};
 ghost use Rattle.xt_spec.specs.Reading.{document, entity, plain_text, IsOrdered, IsReading};
+ghost use Rattle.xt_spec.specs.FirstFault.{IsFirstFault};
 ghost use Rattle.xt_tree.specs.Meaning.{items_in};
 ghost use Rattle.xt_tree.specs.Places.{marks_of, AreInPlace};
-ghost use Rattle.xt_read.specs.declared.front.FileRole.TheVariants as role;
 ghost use Rattle.xt_read.specs.Front.{role_of, markup_role_of};
-ghost use Rattle.xt_read.specs.Faults.{IsMarkupFault, IsTextFault, IsFaultOf};
+ghost use Rattle.xt_read.specs.Faults.{reading_fault, IsMarkupFault, IsTextFault};
 
 use crate::front::{FileRole, Front, MarkupRole, read_front};
 use crate::items::read_body;
@@ -81,7 +81,7 @@ fn read_as(alloc: Global, bytes: &[u8], role: FileRole) -> Result<Items<Src>, Un
     requires fits { length bytes.now < 2 ^ 32 }
     ensures value { IfOk result (λ items. IsReading (role_of role) bytes.now (items_in bytes.now items)) }
     ensures place { IfOk result (λ items. AreInPlace bytes.now 0 (marks_of items) (length bytes.now)) }
-    ensures fault { IfErr result (IsFaultOf role bytes.now) }
+    ensures fault { IfErr result (λ e. IfSome (reading_fault e) (IsFirstFault (role_of role) bytes.now)) }
 {
     match text_of(bytes) {
         Ok(text) => read_text_as(alloc, text, role),
@@ -100,7 +100,7 @@ pub fn read_document<L: Ledger>(
     requires fits { length bytes.now < 2 ^ 32 }
     ensures value { IfOk result (λ items. IsReading document bytes.now (items_in bytes.now items)) }
     ensures place { IfOk result (λ items. AreInPlace bytes.now 0 (marks_of items) (length bytes.now)) }
-    ensures fault { IfErr result (IsFaultOf role.Document bytes.now) }
+    ensures fault { IfErr result (λ e. IfSome (reading_fault e) (IsFirstFault document bytes.now)) }
     ensures count { steps.new ≡ steps.old + length bytes.now }
 {
     count(bytes, steps);
@@ -118,7 +118,7 @@ pub fn read_entity<L: Ledger>(
     requires fits { length bytes.now < 2 ^ 32 }
     ensures value { IfOk result (λ items. IsReading entity bytes.now (items_in bytes.now items)) }
     ensures place { IfOk result (λ items. AreInPlace bytes.now 0 (marks_of items) (length bytes.now)) }
-    ensures fault { IfErr result (IsFaultOf role.Entity bytes.now) }
+    ensures fault { IfErr result (λ e. IfSome (reading_fault e) (IsFirstFault entity bytes.now)) }
     ensures count { steps.new ≡ steps.old + length bytes.now }
 {
     count(bytes, steps);
@@ -137,7 +137,7 @@ pub fn read_text<L: Ledger>(
     requires fits { length bytes.now < 2 ^ 32 }
     ensures value { IfOk result (λ items. IsReading plain_text bytes.now (items_in bytes.now items)) }
     ensures place { IfOk result (λ items. AreInPlace bytes.now 0 (marks_of items) (length bytes.now)) }
-    ensures fault { IfErr result (IsFaultOf role.Text bytes.now) }
+    ensures fault { IfErr result (λ e. IfSome (reading_fault e) (IsFirstFault plain_text bytes.now)) }
     ensures count { steps.new ≡ steps.old + length bytes.now }
 {
     count(bytes, steps);

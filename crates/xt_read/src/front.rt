@@ -8,7 +8,8 @@ ghost use Rattle.xt_lex.specs.DeclaredValues.{values_of};
 ghost use Rattle.xt_tree.specs.Meaning.{at_span, items_in};
 ghost use Rattle.xt_tree.specs.Places.{marks_of, AreInPlace};
 ghost use Rattle.xt_read.specs.Progress.{body_of};
-ghost use Rattle.xt_read.specs.Front.{form_of, body_for, NoDeclared, IsForeign, IsFront};
+ghost use Rattle.xt_spec.specs.Front.{NoDeclared, IsForeign};
+ghost use Rattle.xt_read.specs.Front.{form_of, body_for, IsFront};
 ghost use Rattle.xt_read.specs.FrontSteps.{IsDeclarationAt, IsFrontFault, NoDeclarationAt, IsDeclaredAt, front_items, front_marks, front_len};
 
 use crate::stage::Body;
@@ -20,7 +21,7 @@ use xt_tree::Src;
 
 /// In which role a file is read.
 #[derive(Clone, Copy, Debug, PartialEq, Eq)]
-pub enum FileRole {
+pub(crate) enum FileRole {
     Document,
     /// An external parsed entity.
     Entity,

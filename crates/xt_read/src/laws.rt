@@ -1,28 +1,15 @@
-//! Laws of readings, each a clause of a function that does nothing.
+//! Laws of readings and of first faults, each a clause of a function that does nothing.
 
-ghost use Rattle.std.specs.Prelude.{◌≡◌, ◌≢◌, ◌↔◌, ◌++◌, List, ℕ, None};
+ghost use Rattle.std.specs.Prelude.{◌≡◌, ◌⊎◌, ◌↔◌, List, ℕ};
 ghost use Rattle.xt_spec.specs.Tree.{Items, source_text};
-ghost use Rattle.xt_spec.specs.Reading.{document, entity, plain_text, IsReading};
-ghost use Rattle.xt_read.specs.Run.{Body, IsBody, IsRead, State, Tok, tok_text, IsToken, begin, step};
-ghost use Rattle.xt_read.specs.declared.front.FileRole.{FileRole};
-ghost use Rattle.xt_read.specs.declared.unread.Unread.{Unread};
-ghost use Rattle.xt_read.specs.declared.unread.Unread.TheVariants as unread;
-ghost use Rattle.xt_read.specs.Front.{role_of};
-ghost use Rattle.xt_read.specs.Faults.{Passes, IsFaultOf};
+ghost use Rattle.xt_spec.specs.Reading.{Role, document, IsReading};
+ghost use Rattle.xt_spec.specs.Content.{Content, HasContent};
+ghost use Rattle.xt_spec.specs.FirstFault.{ReadingFault, IsFirstFault};
+ghost use Rattle.xt_read.specs.Run.{Body, IsBody, IsRead};
 
-/// A text has at most one reading as a document.
+/// In each role a text has at most one reading.
 pub fn one_reading()
-    ensures law { (text : List ℕ) (a b : Items) → IsReading document text a → IsReading document text b → a ≡ b }
-{}
-
-/// A text has at most one reading as an external parsed entity.
-pub fn one_entity()
-    ensures law { (text : List ℕ) (a b : Items) → IsReading entity text a → IsReading entity text b → a ≡ b }
-{}
-
-/// A text has at most one reading as one text.
-pub fn one_text()
-    ensures law { (text : List ℕ) (a b : Items) → IsReading plain_text text a → IsReading plain_text text b → a ≡ b }
+    ensures law { (role : Role) (bytes : List ℕ) (a b : Items) → IsReading role bytes a → IsReading role bytes b → a ≡ b }
 {}
 
 /// The top of a document, and content, is what the longest tokens from left to right give, and nothing else is.
@@ -30,22 +17,22 @@ pub fn longest_tokens()
     ensures law { (body : Body) (text : List ℕ) (items : Items) → (IsBody body items × (source_text items ≡ text) ↔ IsRead body text items) }
 {}
 
-/// A file that has a reading has no fault but want of memory.
+/// A file that has a reading in a role has no fault in it.
 pub fn no_fault()
-    ensures law { (role : FileRole) (bytes : List ℕ) (items : Items) (fault : Unread) → IsReading (role_of role) bytes items → IsFaultOf role bytes fault → fault ≡ unread.NoMemory }
+    ensures law { (role : Role) (bytes : List ℕ) (items : Items) (fault : ReadingFault) → IsReading role bytes items → ¬ IsFirstFault role bytes fault }
 {}
 
-/// A file has at most one fault but want of memory.
+/// In each role a file has at most one first fault.
 pub fn one_fault()
-    ensures law { (role : FileRole) (bytes : List ℕ) (a b : Unread) → IsFaultOf role bytes a → IsFaultOf role bytes b → a ≢ unread.NoMemory → b ≢ unread.NoMemory → a ≡ b }
+    ensures law { (role : Role) (bytes : List ℕ) (a b : ReadingFault) → IsFirstFault role bytes a → IsFirstFault role bytes b → a ≡ b }
 {}
 
-/// What is read of a body, token by token, is the front of a whole one: no token before the place of a fault is misplaced.
-pub fn front_goes_on()
-    ensures law { (body : Body) (front rest : List ℕ) (s : State) → Passes (begin body) (front ++ rest) s rest → (more : List ℕ) × (items : Items) × IsBody body items × (source_text items ≡ front ++ more) }
+/// In each role a file has a reading or a first fault.
+pub fn a_reading_or_a_fault()
+    ensures law { (role : Role) (bytes : List ℕ) → ((items : Items) × IsReading role bytes items) ⊎ ((fault : ReadingFault) × IsFirstFault role bytes fault) }
 {}
 
-/// A token that may not stand behind what was read is in no body there, whatever follows it.
-pub fn misplaced_ends()
-    ensures law { (body : Body) (front rest more : List ℕ) (s : State) (tok : Tok) (items : Items) → Passes (begin body) (front ++ rest) s rest → IsToken tok rest → step s tok ≡ None → IsBody body items → source_text items ≢ front ++ tok_text tok ++ more }
+/// A document that is read gives content by itself, or gives none.
+pub fn content_or_none()
+    ensures law { (bytes : List ℕ) (items : Items) → IsReading document bytes items → ((content : Content) × HasContent items content) ⊎ ¬ ((content : Content) × HasContent items content) }
 {}

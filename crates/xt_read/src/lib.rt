@@ -2,7 +2,7 @@
 //! fault; and whether a document gives content by itself. XML 1.0 (Fifth Edition), sections 2.1, 2.2, 2.5 to 2.8, 3, 3.1,
 //! 4.1 and 4.3.1 to 4.3.3. Offsets are bytes of the file, from 0. The tokens are `xt_lex`'s; here is which of them may stand
 //! behind which: nesting, names of end-tags, two attributes of one name, levels, what stands at the top. Names are not
-//! resolved, and no value is made. Above, only `IsReading`, `IsFaultOf`, `HasContent` and the places of the marks are used.
+//! resolved, and no value is made. Above, only `IsReading`, `IsFirstFault`, `HasContent` and the places of the marks are used.
 //! The tree takes memory; nothing else does but the names of a tag of many attributes.
 #![tactic(auto)]
 
@@ -22,9 +22,7 @@ mod unread;
 
 pub use content::has_content;
 pub use document::{read_document, read_entity, read_text};
-pub use front::FileRole;
 pub use laws::{
-    front_goes_on, longest_tokens, misplaced_ends, no_fault, one_entity, one_fault, one_reading,
-    one_text,
+    a_reading_or_a_fault, content_or_none, longest_tokens, no_fault, one_fault, one_reading,
 };
 pub use unread::Unread;

@@ -1,7 +1,7 @@
 -- The definitions, computed on right and on wrong cases.
-use Rattle.std.proofs.Common.{◌≡◌, ◌∙◌, refl, sym, ap, ap₂, subst, subst₂, ℕ, zero, suc, ◌≤◌, List, [], ◌∷◌, ◌++◌, codes, get_or, length, drop, drop_of_length-le, Bool, true, false, bytes_eq, Option, Some, None, inl, inr, encode_utf8_all, append_assoc, eqb, eq-eqb, arith}
+use Rattle.std.proofs.Common.{◌≡◌, ◌∙◌, refl, sym, ap, ap₂, subst, subst₂, ℕ, zero, suc, ◌+◌, ◌≤◌, List, [], ◌∷◌, ◌++◌, codes, get_or, length, take, drop, drop_of_length-le, Bool, true, false, bytes_eq, Option, Some, None, inl, inr, encode_utf8_all, append_assoc, eqb, eq-eqb, arith}
 use Rattle.std.proofs.lemmas.Bool.{and_parts}
-use Rattle.std.proofs.lemmas.List.{append_cancel_right}
+use Rattle.std.proofs.lemmas.List.{append_cancel_right, length-drop}
 use Rattle.std.proofs.lemmas.Str.{encodes_same, encode_same, encodes-append}
 use Rattle.std.proofs.Math.Utf8.{encode}
 use Rattle.std.specs.List.{concat, list_all}
@@ -12,9 +12,12 @@ use Rattle.xt_spec.specs.Tag.{IsSpace, is_value_char, IsValuePart, IsAttValue, A
 use Rattle.xt_spec.specs.Declaration.{Declaration, IsDeclarationOf}
 use Rattle.xt_spec.specs.Doctype.{is_pubid_char, IsSystemLiteral, IsPubidLiteral, IsExternalId, IsDoctype}
 use Rattle.xt_spec.specs.Markup.{lacks, IsCDataSection, IsComment, IsPiTarget}
-use Rattle.xt_spec.specs.Token.{Spells, char_data, HoldsNoClose, MayStand}
-use Rattle.xt_spec.specs.Tree.{Items, nil, element, leaf, text_item, reference_item, gap, leaf_item}
-use Rattle.xt_spec.specs.Reading.{are_distinct, mark, document, entity, Closes, IsElementAt, IsOneText, IsReading}
+use Rattle.xt_spec.specs.Token.{Spells, start_tag, empty_tag, end_tag, char_data, HoldsNoClose, MayStand}
+use Rattle.xt_spec.specs.Tree.{Items, nil, element, leaf, text_item, reference_item, comment_item, pi_item, gap, leaf_item, source_text}
+use Rattle.xt_spec.specs.Reading.{are_distinct, mark, document, entity, fragment, Closes, IsElementAt, IsOneText, IsReading}
+use Rattle.xt_spec.specs.Front.{IsBody, form_of, NoDeclared, BeginsBody}
+use Rattle.xt_spec.specs.FirstFault as first
+use Rattle.xt_spec.specs.FirstFault.{not_well_formed, open_behind, begins_too_deep, no_tokens, IsFrontOf, IsStopped, no_token, misplaced, too_early, IsFirstFault}
 use Rattle.xt_spec.specs.Escape.{escape_text}
 use Rattle.xt_spec.specs.Paths.{item_at}
 use Rattle.xt_spec.specs.LineEnds.{lines_read}
@@ -660,3 +663,88 @@ gives_content = (
 -- a reference that stands for no character gives none
 gives_no_content : (content : Content) → HasContent (leaf reference_item (codes "&e;") nil) content → ⊥
 gives_no_content content none = none
+
+-- ---- first faults
+
+none_in_nothing : (form : Declaration → Bool) → NoDeclared form []
+none_in_nothing form d = let h = d.stands ∙ ap (λ t. t ++ d.rest) d.is.spelled in cc
+
+none_in_tag : (form : Declaration → Bool) → NoDeclared form (codes "<a/>")
+none_in_tag form d = let h = d.stands ∙ ap (λ t. t ++ d.rest) d.is.spelled in cc
+
+-- a body begins at 0 where nothing stands in front, and behind a byte order mark
+begins_at_once : BeginsBody (form_of document) [] 0
+begins_at_once = record { len = 0; takes = inr (none_in_nothing _, refl); to_is = refl }
+
+begins_behind_a_mark : BeginsBody (form_of entity) (mark ++ codes "<a/>") 3
+begins_behind_a_mark = record { len = 0; takes = inr (none_in_tag _, refl); to_is = refl }
+
+-- .. and not before it
+begins_not_before_a_mark : BeginsBody (form_of entity) (mark ++ codes "<a/>") 0 → ⊥
+begins_not_before_a_mark is = omega (arith, is.to_is)
+
+nothing_first : (first rest : List ℕ) → first ++ rest ≡ [] → first ≡ []
+nothing_first [] rest is = refl
+nothing_first (b ∷ bs) rest is = absurd (cc)
+
+-- no document is empty
+some_document : (items : Items) → IsBody document items → source_text items ≡ [] → ⊥
+some_document nil is joined = cc
+some_document (element open_tag kids close rest) is joined =
+    let none : open_tag ≡ [] = nothing_first open_tag _ (nothing_first _ _ (nothing_first _ _ joined)) in
+    let wrong = sym none ∙ is.1.element.spelled in cc
+some_document (leaf comment_item text rest) is joined = let wrong = sym (nothing_first text _ joined) ∙ is.0.3 in cc
+some_document (leaf pi_item text rest) is joined = let wrong = sym (nothing_first text _ joined) ∙ is.0.4 in cc
+some_document (leaf gap text rest) (inl (first, doctype, others)) joined = let wrong = sym (nothing_first text _ joined) ∙ doctype.spelled in cc
+some_document (leaf gap text rest) (inr (space, apart, others)) joined = space.1 (nothing_first text _ joined)
+some_document (leaf text_item text rest) is joined = is
+some_document (leaf reference_item text rest) is joined = is
+
+-- an empty file ends too early for a document, at its beginning
+ends_too_early : IsFirstFault document [] (not_well_formed 0)
+unfolding lone encode
+ends_too_early = (
+  ([], (refl, refl)),
+  record {
+    to = 0;
+    body = record { known = λ foreign. none_in_nothing _ foreign.0; begins = begins_at_once };
+    n = 0;
+    at_is = refl;
+    fault = record {
+      opened = 0;
+      read = record { within = omega arith; tokens = no_tokens [] 0; front = (codes "<a/>", lone, (refl, is_the_element, tt, refl), refl) };
+      stopped = too_early refl some_document;
+    };
+  },
+)
+
+-- .. at no other place, and for no encoding
+ends_nowhere_else : IsFirstFault document [] (not_well_formed 1) → ⊥
+ends_nowhere_else is = omega (arith, is.1.at_is, is.1.fault.read.within, length-drop {A = ℕ} is.1.to [], begins_only is.1.body.begins)
+  where
+    begins_only : BeginsBody (form_of document) [] is.1.to → is.1.to ≡ 0
+    begins_only begins = elim begins.takes [
+      | inl (d, size) ↦ absurd (none_in_nothing _ d)
+      | inr (none, size) ↦ omega (arith, begins.to_is, size)
+    ]
+
+declares_no_encoding : IsFirstFault document [] first.encoding → ⊥
+declares_no_encoding is = none_in_nothing _ is.1.0
+
+take_nil : (n : ℕ) → ◌≡◌ {A = List ℕ} (take n []) []
+take_nil zero = refl
+take_nil (suc n) = refl
+
+-- nothing is content, so as a fragment it doesn't end too early
+no_end_of_a_fragment : IsStopped (IsBody fragment) [] 0 0 → ⊥
+no_end_of_a_fragment (no_token some never) = some refl
+no_end_of_a_fragment (misplaced kind n longest shallow never) = never (subst (IsFrontOf (IsBody fragment)) (sym (take_nil (0 + n))) ([], nil, tt, refl))
+no_end_of_a_fragment (too_early end never) = never nil tt refl
+
+-- a tag begins an element at level 128, and at no deeper one
+begins_no_deeper : (begins_too_deep empty_tag 127 ≡ false) × (begins_too_deep empty_tag 128 ≡ true) × (begins_too_deep end_tag 128 ≡ false)
+begins_no_deeper = (refl, refl, refl)
+
+-- an element is open behind its start-tag, and no more behind its end-tag
+opens_and_closes : (open_behind start_tag 1 ≡ 2) × (open_behind end_tag 2 ≡ 1) × (open_behind char_data 1 ≡ 1)
+opens_and_closes = (refl, refl, refl)

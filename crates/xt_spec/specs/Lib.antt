@@ -11,6 +11,8 @@ pub mod Token
 pub mod Tree
 pub mod Text
 pub mod Reading
+pub mod Front
+pub mod FirstFault
 pub mod Value
 pub mod Namespace
 pub mod Content

@@ -1,5 +1,6 @@
 use Rattle.std.proofs.Common.{ℕ, List, ◌≤◌, ◌+◌, ◌*◌, map, take}
 use Rattle.std.specs.Prelude.{IsTrue}
+use Rattle.xt_spec.specs.Limit.{most_file_bytes}
 use Rattle.bk_desk.specs.CrashPoints.{AtEachCrash}
 use Rattle.jr_burst.specs.Commit.{IsClosed}
 use Rattle.ed_spec.specs.Session.{Session, Step, DoesAll}
@@ -16,5 +17,5 @@ invariant-loop-command g l = record {
       → AtEachCrash g.D.Desk.time g.D.Desk.was l.fn.desk l.desk (IsOfOneBurst (g.D.Desk.standing l.fn.desk) s.saved steps more);
   faults : g.D.Desk.faults l.fn.desk ≤ g.D.Desk.faults l.desk;
   later : l.fn.steps ≤ l.steps;
-  counted : l.steps ≤ l.fn.steps + l.command-index * 4194304;
+  counted : l.steps ≤ l.fn.steps + l.command-index * most_file_bytes;
 }

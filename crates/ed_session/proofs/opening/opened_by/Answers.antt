@@ -1,6 +1,6 @@
 use Rattle.std.proofs.Common.{List, ℕ, sym, subst}
 use Rattle.bk_spec.specs.Fault.{too_large}
-use Rattle.ed_session.specs.Start.{IsRootFault}
+use Rattle.bk_spec.specs.FirstFault.{IsRootFault}
 use Rattle.ed_session.proofs.StartLemmas.{too_long, no_root}
 use Rattle.ed_session.proofs.opening.opened_by.Goals as goal
 

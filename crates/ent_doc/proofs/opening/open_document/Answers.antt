@@ -1,4 +1,4 @@
-use Rattle.std.proofs.Common.{◌≡◌, subst, sym, List, [], ℕ}
+use Rattle.std.proofs.Common.{◌≡◌, subst, sym, List, [], ℕ, IfSome}
 use Rattle.std.proofs.lemmas.Result.{err_from_is_err_and}
 use Rattle.xt_spec.specs.Reading.{document, IsReading}
 use Rattle.xt_tree.specs.Meaning.{items_in}
@@ -6,8 +6,8 @@ use Rattle.xt_tree.specs.declared.source.Src.{Src}
 use Rattle.bk_info.specs.Nodes.{nodes_in}
 use Rattle.bk_info.specs.Paths.{paths_in}
 use Rattle.bk_spec.specs.NodePaths.{node_paths}
-use Rattle.bk_spec.specs.Opening.{IsOpen}
-use Rattle.ent_doc.specs.Opening.{IsItemsFault}
+use Rattle.bk_spec.specs.Opening.{IsOpen, IsUnopened}
+use Rattle.ent_doc.specs.Opening.{open_fault}
 use Rattle.ent_doc.proofs.OpeningLemmas.{items_fault, reading_fault}
 use Rattle.ent_doc.proofs.opening.open_document.Goals as goal
 
@@ -31,8 +31,8 @@ returns-in_err-nodes-in-Ok-clause-fault g c =
     let p = err_from_is_err_and c.from_residual.result c.from_residual.ensures.1 in
     rw (p.1, p.2)
     (items_fault c.args.file.now c.args.bytes.now (items_in c.args.bytes.now c.in-Ok.items) c.in_err-nodes-in-Ok.field-0.0 c.in-Ok.ensures.value
-    (subst (λ (l : List Src). IsItemsFault c.args.file.now (items_in c.args.bytes.now l) c.in_err-nodes-in-Ok.field-0.0) c.as_slice.ensures
-    (subst (λ (t : List ℕ). IsItemsFault c.args.file.now (items_in t c.as_slice.result.now) c.in_err-nodes-in-Ok.field-0.0) c.as_text.ensures.value c.in_err-nodes-in-Ok.ensures.fault)))
+    (subst (λ (l : List Src). IfSome (open_fault c.in_err-nodes-in-Ok.field-0.0) (IsUnopened c.args.file.now (items_in c.args.bytes.now l))) c.as_slice.ensures
+    (subst (λ (t : List ℕ). IfSome (open_fault c.in_err-nodes-in-Ok.field-0.0) (IsUnopened c.args.file.now (items_in t c.as_slice.result.now))) c.as_text.ensures.value c.in_err-nodes-in-Ok.ensures.fault)))
 
 pub returns-in_ok-fault_of-in-Err-clause-fault : goal.returns-in_ok-fault_of-in-Err-clause-fault
 returns-in_ok-fault_of-in-Err-clause-fault g c = reading_fault c.args.file.now c.args.bytes.now c.in-Err.unread c.in_ok-fault_of-in-Err.field-0 c.in-Err.ensures.fault c.in_ok-fault_of-in-Err.ensures.value

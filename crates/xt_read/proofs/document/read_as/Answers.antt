@@ -5,6 +5,7 @@ use Rattle.xt_spec.specs.Reading.{IsOrdered}
 use Rattle.xt_tree.specs.Meaning.{items_in}
 use Rattle.xt_read.specs.Front.{role_of}
 use Rattle.xt_read.proofs.FrontPlaces.{file_fault}
+use Rattle.xt_read.proofs.FirstFaults.{first_of}
 use Rattle.xt_read.proofs.document.read_as.Goals as goal
 
 pub returns-in-Ok-clause-value : goal.returns-in-Ok-clause-value
@@ -17,4 +18,4 @@ returns-in-Ok-clause-value c =
     }) c.read_text_as.ensures.value
 
 pub returns-in-Ok-clause-fault : goal.returns-in-Ok-clause-fault
-returns-in-Ok-clause-fault c = IfErr-weaker c.read_text_as.result _ _ (λ e is. file_fault c.args.role c.args.bytes.now c.in-Ok.text.now e c.in-Ok.ensures.0 c.in-Ok.ensures.1 is) c.read_text_as.ensures.fault
+returns-in-Ok-clause-fault c = IfErr-weaker c.read_text_as.result _ _ (λ e is. first_of c.args.role c.args.bytes.now e (file_fault c.args.role c.args.bytes.now c.in-Ok.text.now e c.in-Ok.ensures.0 c.in-Ok.ensures.1 is)) c.read_text_as.ensures.fault

@@ -1,7 +1,8 @@
 use Rattle.std.proofs.Common.{ℕ, inr, subst, sym}
 use Rattle.xt_tree.specs.Meaning.{items_in}
 use Rattle.xt_spec.specs.Tree.{Items}
-use Rattle.xt_read.specs.Front.{form_of, IsForeign, IsFront}
+use Rattle.xt_spec.specs.Front.{IsForeign}
+use Rattle.xt_read.specs.Front.{form_of, IsFront}
 use Rattle.xt_read.specs.FrontSteps.{front_len}
 use Rattle.xt_read.proofs.FrontPlaces.{mark_dropped, front_stands}
 use Rattle.xt_read.proofs.front.read_front.Goals as goal
