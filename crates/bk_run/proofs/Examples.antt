@@ -1,5 +1,5 @@
 -- The definitions on small cases.
-use Rattle.std.proofs.Common.{◌≡◌, ◌≢◌, ◌∙◌, ℕ, List, [], ◌∷◌, ◌++◌, arith, true, false, Some, None, refl, sym, ap}
+use Rattle.std.proofs.Common.{◌≡◌, ◌≢◌, ◌∙◌, ℕ, List, [], ◌∷◌, ◌++◌, arith, true, false, Option, Some, None, refl, sym, ap, inl, inr}
 use Rattle.std.specs.Prelude.{codes}
 use Rattle.std.specs.Fmt.{digits}
 use Rattle.std.specs.Str.{chars}
@@ -10,6 +10,7 @@ use Rattle.bk_script.specs.Command as script
 use Rattle.ed_spec.specs.Book.{Book}
 use Rattle.ed_spec.specs.Edit.{text_edit, bad_text}
 use Rattle.ed_spec.specs.Session.{Session, Command, edit, burst, Reply, done, refused, nothing_to_undo, saved_files, Step}
+use Rattle.bk_run.specs.Input.{IsInput}
 use Rattle.bk_run.specs.Replies.{IsCommandOf, AreCommandsOf, replies_text, any_refused}
 use Rattle.bk_run.specs.Stops.{IsCut, IsSameInAll, IsOfOneBurst}
 use Rattle.bk_run.proofs.StopLemmas.{told_is_saved}
@@ -56,8 +57,23 @@ module _ (s : Session) where
 -- `text /1/1 0 2 "a"` and `burst`
 two_are_asked : AreCommandsOf (script.edit_text record { numbers = 1 ∷ 1 ∷ []; carets = 0 } 0 2 (codes "a") ∷ script.burst ∷ []) (edit (text_edit (1 ∷ 1 ∷ []) 0 2 (97 ∷ [])) ∷ burst ∷ [])
 unfolding chars
-two_are_asked = (refl, (refl, refl))
+two_are_asked = ((refl, refl), (refl, refl))
+
+-- with `^` behind its place an edit asks nothing of the session
+no_caret : (command : Command) → IsCommandOf (script.edit_text record { numbers = 1 ∷ 1 ∷ []; carets = 1 } 0 2 (codes "a")) command → ⊥
+no_caret command is =
+    let bad : ◌≡◌ {A = ℕ} 1 0 = is.0 in
+    absurd (cc)
 
 -- `tree` asks nothing of the session
 nothing_is_asked : (command : Command) → IsCommandOf script.tree command → ⊥
 nothing_is_asked command is = is
+
+-- a source of which a part was left was not read to its end
+part_left : IsInput 1048577 (codes "ab") (Some (codes "b")) (codes "a") → ⊥
+part_left is = elim is.whole as (λ _. ⊥) [
+  | inl none ↦
+      let same : ◌≡◌ {A = Option (List ℕ)} (Some (codes "b")) (Some []) = is.after_is ∙ ap (λ (l : List ℕ). Some l) none in
+      absurd (cc)
+  | inr most ↦ omega (arith, most)
+]

@@ -17,9 +17,10 @@ use Rattle.bk_run.specs.declared.replies.Reply.TheVariants as code
 use Rattle.ed_spec.specs.Edit.{text_edit, Refusal, no_such_place, wrong_kind, bad_range, bad_text, too_large}
 use Rattle.ed_spec.specs.Session.{Command, edit, undo, redo, burst, Reply, done, refused, nothing_to_undo, nothing_to_redo, saved_files, Step}
 
--- what a command of a script asks of the session; one that changes nothing, or isn't there yet, asks nothing of it
+-- what a command of a script asks of the session, where its place has no `^`; one that changes nothing, or isn't there yet,
+-- asks nothing of it
 abbrev pub IsCommandOf : script.Command → Command → Type 0
-IsCommandOf (script.edit_text place from to value) command = command ≡ edit (text_edit place.numbers from to (chars value))
+IsCommandOf (script.edit_text place from to value) command = (place.carets ≡ 0) × (command ≡ edit (text_edit place.numbers from to (chars value)))
 IsCommandOf script.undo command = command ≡ undo
 IsCommandOf script.redo command = command ≡ redo
 IsCommandOf script.burst command = command ≡ burst

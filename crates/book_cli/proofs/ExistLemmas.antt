@@ -3,7 +3,7 @@ use Rattle.std.proofs.Common.{◌≡◌, ◌≤◌, ◌+◌, ◌⊎◌, ℕ, Lis
 use Rattle.std.specs.Prelude.{if◌then◌else◌}
 use Rattle.std.specs.Str.{chars}
 use Rattle.std.specs.Fmt.{decimal}
-use Rattle.std.proofs.lemmas.Bool.{cases_Bool, ltb-true, ltb-false}
+use Rattle.std.proofs.lemmas.Bool.{cases_Bool, eqb-true, ltb-true, ltb-false}
 use Rattle.xt_spec.specs.Limit.{most_commands, most_file_bytes, most_script_bytes}
 use Rattle.xt_spec.specs.Tree.{Items}
 use Rattle.bk_spec.specs.Fault.{Fault, missing, too_large, fault_line}
@@ -31,7 +31,7 @@ use Rattle.book_cli.proofs.OutputLemmas.{tree_exists}
 
 -- a command that is built asks something of the session
 built_asks : (command : script.Command) → script.is_built command ≡ true → (asked : Command) × IsCommandOf command asked
-built_asks (script.edit_text place from to value) is = (edit (text_edit place.numbers from to (chars value)), refl)
+built_asks (script.edit_text place from to value) is = (edit (text_edit place.numbers from to (chars value)), (eqb-true place.carets 0 is, refl))
 built_asks (script.put place side fragment) is = absurd (cc)
 built_asks (script.attr place name value) is = absurd (cc)
 built_asks (script.drop_attr place name) is = absurd (cc)
@@ -48,7 +48,7 @@ built_asks script.tree is = absurd (cc)
 built_asks (script.owner place) is = absurd (cc)
 
 -- .. and so do those of lines
-read_asks : (lines : List (List ℕ)) (commands : List script.Command) → AreRead lines commands → (asked : List Command) × AreCommandsOf commands asked
+pub read_asks : (lines : List (List ℕ)) (commands : List script.Command) → AreRead lines commands → (asked : List Command) × AreCommandsOf commands asked
 read_asks [] commands is = ([], subst (λ (l : List script.Command). AreCommandsOf l []) (sym is) refl)
 read_asks (line ∷ lines) commands (None, others, is, read, joined) =
     let (asked, asks) = read_asks lines others read in

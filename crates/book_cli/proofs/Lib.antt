@@ -6,6 +6,7 @@ pub mod SessionLemmas
 pub mod RunLemmas
 pub mod InputLemmas
 pub mod EndLemmas
+pub mod LocalLemmas
 pub mod Examples
 pub mod RunExamples
 pub mod NewNameLemmas

@@ -31,7 +31,7 @@ none_some A a found first second = let e : ◌≡◌ {A = Option A} None (Some a
 -- ---- commands
 
 command_once : (command : script.Command) (x y : Command) → IsCommandOf command x → IsCommandOf command y → x ≡ y
-command_once (script.edit_text place from to value) x y first second = first ∙ sym second
+command_once (script.edit_text place from to value) x y first second = first.1 ∙ sym second.1
 command_once (script.put place side fragment) x y first second = absurd first
 command_once (script.attr place name value) x y first second = absurd first
 command_once (script.drop_attr place name) x y first second = absurd first
@@ -163,7 +163,7 @@ fault_lines bytes d e x y first second line other = elim (one_fault bytes d e fi
   | inr (inr same) ↦ line_once e x y (subst (λ (f : ScriptFault). IsScriptLine f x) same line) other
 ]
 
-no_both : (bytes : List ℕ) (commands : List script.Command) (fault : ScriptFault) (text : List ℕ) → IsScript bytes commands → IsFaultOf bytes fault → IsScriptLine fault text → ⊥
+pub no_both : (bytes : List ℕ) (commands : List script.Command) (fault : ScriptFault) (text : List ℕ) → IsScript bytes commands → IsFaultOf bytes fault → IsScriptLine fault text → ⊥
 no_both bytes commands fault text is has line = no_line fault text (no_fault bytes commands fault is has) line
 
 script_unique : (root bytes : List ℕ) (files : DiskImage) (s t : ℕ) (x y : List ℕ)

@@ -8,14 +8,16 @@
 --   IsSourceFault    a run whose source failed
 --   EndsBy           a run of one of these two kinds
 --   EndsEarly        .. that ends with 6 or 7
+--   IsLocalRun       the steps behind what was told, of a run over a book; each of them is local
 use Rattle.std.specs.Prelude.{◌≡◌, ◌⊎◌, ℕ, List, ◌++◌, take, IsTrue, Option, Some}
-use Rattle.ed_spec.specs.Session.{Step}
+use Rattle.ed_spec.specs.Session.{Command, Step}
+use Rattle.ed_laws.specs.LocalSteps.{AreLocalSteps}
 use Rattle.bk_desk.specs.Disk.{DiskState, CrashState, WhileTelling}
 use Rattle.jr_burst.specs.SavedFiles.{book_files}
 use Rattle.bk_script.specs.Command as script
-use Rattle.bk_run.specs.Replies.{replies_text}
+use Rattle.bk_run.specs.Replies.{AreCommandsOf, replies_text}
 use Rattle.bk_run.specs.Stops.{IsOfOneBurst}
-use Rattle.book_cli.specs.Output.{source_line, RootOutput, IsRun, status_after, is_exit_status, WritesOutput, WritesPrefix}
+use Rattle.book_cli.specs.Output.{source_line, RootOutput, IsRun, IsBookRun, status_after, is_exit_status, WritesOutput, WritesPrefix}
 use Rattle.book_cli.specs.Leaves.{RecoveredBook, recovers_book, MayCrashIn, KeepsFiles, AreSavedBy, IsBookSaved}
 
 -- this text was told behind what was told before, and the answer is its status; or, with 6 or 7, a front of it was
@@ -62,3 +64,16 @@ pub data EndsBy (root : Option (List ℕ)) (bytes : List ℕ) (rose : Type 0) (s
 pub data EndsEarly (root : Option (List ℕ)) (bytes : List ℕ) (rose : Type 0) (start now : DiskState) (points : (CrashState → Type 0) → Type 0) (answer : ℕ) : Type 0 where
   in_part : WritesPrefix (RootOutput root bytes start.files) start.told now.told → points (MayCrashIn root bytes start) → EndsEarly root bytes rose start now points answer
   at_source : IsSourceFault root rose start now points answer → EndsEarly root bytes rose start now points answer
+
+-- What was told are the replies to these steps and what is told behind them, or with 6 or 7 a front of that. Each of the
+-- steps, from the book that was recovered on, makes a local edit, takes one back, or leaves the book as it was.
+pub record IsLocalRun (root : Option (List ℕ)) (bytes : List ℕ) (start now : DiskState) (answer : ℕ) : Type 0 where
+  pub of : RecoveredBook root bytes start.files
+  pub asked : List Command
+  pub asks : AreCommandsOf of.commands asked
+  pub steps : List Step
+  pub last : List ℕ
+  pub status : ℕ
+  pub run : IsBookRun of.name of.commands of.book steps last status
+  pub told : AnswersWith status (replies_text steps ++ last) start.told now.told answer
+  pub local : AreLocalSteps of.name of.book asked steps

@@ -1,5 +1,5 @@
 //! The run of the program, over any disk and any script.
-ghost use Rattle.std.specs.Prelude.{◌≡◌, ◌≢◌, ◌⊎◌, ◌≤◌, ◌+◌, ◌*◌, ◌++◌, ℕ, List, [], length, map, Option, Some, None, IsTrue, string_bytes, encode_utf8_all};
+ghost use Rattle.std.specs.Prelude.{◌≡◌, ◌≢◌, ◌⊎◌, ◌≤◌, ◌+◌, ◌*◌, ◌++◌, ℕ, List, [], length, map, Option, Some, None, IsTrue, string_bytes};
 ghost use Rattle.xt_spec.specs.Limit.{most_file_bytes, most_script_bytes};
 ghost use Rattle.bk_desk.specs.Disk.{DiskState};
 ghost use Rattle.bk_desk.specs.CrashPoints.{AtEachCrash};
@@ -9,17 +9,10 @@ ghost use Rattle.bk_script.specs.View.{command_of};
 ghost use Rattle.ed_session.specs.Start.{IsStarted};
 ghost use Rattle.bk_script.specs.Script.{IsScript};
 ghost use Rattle.book_cli.specs.Words.{root_of};
-ghost use Rattle.xt_spec.specs.Tree.{Items};
-ghost use Rattle.bk_spec.specs.Node.{Nodes};
-ghost use Rattle.bk_spec.specs.DocumentNodes.{Context};
-ghost use Rattle.bk_spec.specs.Opening.{GivesNodes};
-ghost use Rattle.ed_spec.specs.Place.{text_set};
-ghost use Rattle.ed_spec.specs.Edit.{text_edit, IsInText, range_replaced, Accepts};
-ghost use Rattle.ed_laws.specs.Bytes.{ChangesOneText};
 ghost use Rattle.book_cli.specs.Output.{is_book_status, is_script_status, is_exit_status, is_answer, IsOutput, WritesOutput};
 ghost use Rattle.bk_run.specs.Input.{IsInput};
 ghost use Rattle.book_cli.specs.Leaves.{RecoveredBook, recovers_book, MayCrashIn, KeepsFiles, IsBookSaved, TakesRunSteps};
-ghost use Rattle.book_cli.specs.Ends.{IsSessionRun, IsRunOver, IsSourceFault, EndsBy, EndsEarly};
+ghost use Rattle.book_cli.specs.Ends.{IsSessionRun, IsRunOver, IsSourceFault, EndsBy, EndsEarly, IsLocalRun};
 
 use crate::fault::tell_fault;
 use crate::telling::{FAULT, NO_MEMORY, tell, tell_script_fault};
@@ -206,14 +199,14 @@ pub fn run<D: Desk, S: Source, L: Ledger>(
     // After 0, 1, 3 and 8 nothing of the script is left.
     ensures none { (left : List ℕ) → S.left script.old ≡ Some left → IsTrue (is_book_status result) → S.left script.new ≡ Some [] }
     ensures keeps { root_of (map string_bytes words.now) ≡ None → script.new ≡ script.old }
-    // An edit that is accepted gives the text at its place the new value, and leaves all other nodes (`ed_laws`).
-    ensures law { (file : List ℕ) (context : Context) (count : ℕ) (items others : Items) (nodes : Nodes) (place : List ℕ) (from to : ℕ) (new : List ℕ)
-        → GivesNodes file context count items nodes → Accepts items (text_edit place from to new) others
-        → (path characters : List ℕ) × IsInText items place from to path characters
-        × GivesNodes file context count others (text_set nodes place (encode_utf8_all (range_replaced characters from to new))) }
-    // .. and changes in the file the bytes of that text's item alone.
-    ensures law_bytes { (items others : Items) (place : List ℕ) (from to : ℕ) (new : List ℕ)
-        → Accepts items (text_edit place from to new) others → ChangesOneText items others place from to new }
+    // After 0, 1 and 3: each edit that this run accepted leads from a book that opens to a book that opens, gives the text at
+    // its place the new value and leaves all other nodes, the bytes around that text's item and all other files (`ed_laws`).
+    ensures law { IsTrue D.tells → (left : List ℕ) → S.left script.old ≡ Some left → IsTrue (recovers_book result)
+        → IsLocalRun (root_of (map string_bytes words.now)) left (D.standing desk.old) (D.standing desk.new) result }
+    // With 6 or 7, where anything was told and the source did not fail.
+    ensures law_prefix { IsTrue D.tells → (left : List ℕ) → S.left script.old ≡ Some left → RecoveredBook (root_of (map string_bytes words.now)) left (D.standing desk.old).files
+        → (result ≡ 6) ⊎ (result ≡ 7) → (Rose (S.faults script.old) (S.faults script.new) → ⊥)
+        → ((D.standing desk.new).told ≡ (D.standing desk.old).told) ⊎ IsLocalRun (root_of (map string_bytes words.now)) left (D.standing desk.old) (D.standing desk.new) result }
     ensures count { steps.old ≤ steps.new }
     ensures exact { IsTrue D.tells → (left : List ℕ) → S.left script.old ≡ Some left
         → TakesRunSteps (root_of (map string_bytes words.now)) left (D.standing desk.old).files result steps.old steps.new }

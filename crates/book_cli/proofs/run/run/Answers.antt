@@ -2,16 +2,20 @@ use Rattle.std.proofs.Common.{map}
 use Rattle.std.specs.Prelude.{string_bytes}
 use Rattle.bk_desk.specs.Cause.{Rose}
 use Rattle.bk_desk.specs.CrashPoints.{AtEachCrash}
-use Rattle.ed_laws.proofs.Theorems.{accepted_changes_the_node, changes_one_text}
 use Rattle.book_cli.specs.Words.{root_of}
 use Rattle.book_cli.proofs.EndLemmas.{ends_output, ends_crash, ends_durable, ends_others, ends_early, answers_only}
+use Rattle.book_cli.proofs.LocalLemmas.{ends_local, early_local}
 use Rattle.book_cli.proofs.run.run.Goals as goal
 
 pub returns-clause-law : goal.returns-clause-law
-returns-clause-law g c = accepted_changes_the_node
+returns-clause-law g c = λ h left told.
+    ends_local (root_of (map string_bytes c.args.words.now)) left (Rose (g.S.Source.faults c.args.script.now) (g.S.Source.faults c.run_words.new.script)) (g.D.Desk.standing c.args.desk.now) (g.D.Desk.standing c.run_words.new.desk)
+    (AtEachCrash g.D.Desk.time g.D.Desk.was c.args.desk.now c.run_words.new.desk) c.run_words.result (c.run_words.ensures.output h left told)
 
-pub returns-clause-law_bytes : goal.returns-clause-law_bytes
-returns-clause-law_bytes g c = changes_one_text
+pub returns-clause-law_prefix : goal.returns-clause-law_prefix
+returns-clause-law_prefix g c = λ h left told.
+    early_local (root_of (map string_bytes c.args.words.now)) left (Rose (g.S.Source.faults c.args.script.now) (g.S.Source.faults c.run_words.new.script)) (g.D.Desk.standing c.args.desk.now) (g.D.Desk.standing c.run_words.new.desk)
+    (AtEachCrash g.D.Desk.time g.D.Desk.was c.args.desk.now c.run_words.new.desk) c.run_words.result (c.run_words.ensures.output h left told)
 
 pub returns-clause-output : goal.returns-clause-output
 returns-clause-output g c = λ h left told.
