@@ -66,11 +66,31 @@ def write(path, content):
 
 
 def write_and_sync(folder, files):
-    """What any program has to do so that files are on the disk: each is written and synced, and then their folder."""
+    """Files on the disk, where others may see them cut meanwhile: each is written in its place and synced, and then their folder."""
     for name, content in files:
         write(os.path.join(folder, name), content)
     for name, _ in files:
         sync(os.path.join(folder, name))
+    sync(folder)
+
+
+def replace_and_sync(folder, files):
+    """What any program has to do so that files are on the disk, and whole to everyone: each is written beside the old one, synced and renamed over it, and then
+    their folder is synced."""
+    for name, content in files:
+        new = os.path.join(folder, ".new")
+        write(new, content)
+        sync(new)
+        os.rename(new, os.path.join(folder, name))
+    sync(folder)
+
+
+def plain_save(folder, journal, files):
+    """The writes and syncs of a save: the journal, the marker, the files, and the marker away."""
+    write_and_sync(folder, [(model.JOURNAL, journal)])
+    write_and_sync(folder, [(model.GATE, b"OPEN")])
+    replace_and_sync(folder, files)
+    os.unlink(os.path.join(folder, model.GATE))
     sync(folder)
 
 
@@ -81,18 +101,20 @@ def settled(folder, files):
 
 
 def recovery_times(folder, program, count, size, repeats):
-    """Times of a recovery of so many files, of plain writes of the same, and of a run with nothing to recover."""
+    """Times of a recovery of so many files, of plain writes of the same with a rename of each and in their place, and of a run with nothing to recover."""
     items = [(b"%04d.xml" % number, document(size)) for number in range(count - 1)] + [(ROOT.encode(), document(size))]
     olds = {name: b"<old/>" for name, _ in items}
     journal = model.journal_of(items)
     plain = [(name.decode(), content) for name, content in items]
-    times = {"recovery": [], "plain": [], "nothing": []}
+    times = {"recovery": [], "plain": [], "in place": [], "nothing": []}
     for _ in range(repeats):
         settled(folder, {**olds, model.JOURNAL.encode(): journal, model.GATE.encode(): b"OPEN"})
         times["recovery"].append(run([program, ROOT], folder)[0])
         model.want("the files after a recovery", model.book_of(model.files_in(folder)), dict(items))
         settled(folder, olds)
-        times["plain"].append(waited(lambda: write_and_sync(folder, plain)))
+        times["plain"].append(waited(lambda: replace_and_sync(folder, plain)))
+        settled(folder, olds)
+        times["in place"].append(waited(lambda: write_and_sync(folder, plain)))
         settled(folder, dict(items))
         times["nothing"].append(run([program, ROOT], folder)[0])
     return {name: statistics.median(found) for name, found in times.items()}
@@ -116,7 +138,7 @@ def place_of_text(text):
 
 
 def save_times(folder, program, size, repeats):
-    """Times of one edit with a burst of a book of so many bytes, of plain writes of journal and file, and of xmlstarlet."""
+    """Times of one edit with a burst of a book of so many bytes, of the plain writes and syncs of a save, and of xmlstarlet."""
     old = CLASSES["book"](size)
     place, path = place_of_text(old.decode())
     reply, new = documents.edited(old.decode(), place, 0, 1, "Z")
@@ -136,11 +158,7 @@ def save_times(folder, program, size, repeats):
                 model.want("the file after a burst", model.files_in(folder)[ROOT.encode()], new.encode())
         settled(folder, {ROOT.encode(): old})
 
-        def plain():
-            write_and_sync(folder, [(model.JOURNAL, journal)])
-            write_and_sync(folder, [(ROOT, new.encode())])
-
-        times["plain"].append((waited(plain), 0.0))
+        times["plain"].append((waited(lambda: plain_save(folder, journal, [(ROOT, new.encode())])), 0.0))
     return {name: tuple(statistics.median(column) for column in zip(*found)) for name, found in times.items()}
 
 
@@ -160,7 +178,7 @@ def version_of_xmlstarlet():
     return re.sub(r"\s+", " ", told).strip()
 
 
-def page(recoveries, save, repeats, load, folder):
+def page(recoveries, small, save, repeats, load, folder):
     kind = subprocess.run(["stat", "-f", "-c", "%T", folder], capture_output=True, text=True).stdout.strip()
     lines = [
         "# Results of bench/save.py",
@@ -170,14 +188,14 @@ def page(recoveries, save, repeats, load, folder):
         "",
         "## Recovery",
         "",
-        "A journal of so many files under an open gate, over files of one folder. \"Plain\" writes and syncs the same files and syncs the folder; \"nothing\" is a run of the program over the new files, with nothing to recover.",
+        "A journal of so many files under an open gate, over files of one folder. \"Plain\" writes each of the same files beside the old one, syncs it, renames it over the old one, and syncs the folder; \"in place\" writes and syncs them without a rename, so that others may see them cut; \"nothing\" is a run of the program over the new files, with nothing to recover.",
         "",
-        "| Files | Bytes each | Recovery | Plain | Nothing | Recovery to plain | without what \"nothing\" takes | Aim |",
-        "|---|---|---|---|---|---|---|---|",
+        "| Files | Bytes each | Recovery | Plain | In place | Nothing | Recovery to plain | without what \"nothing\" takes | Aim |",
+        "|---|---|---|---|---|---|---|---|---|",
     ]
     for count, size, times in recoveries:
         lines.append(
-            f"| {count:,} | {size:,} | {ms(times['recovery'])} | {ms(times['plain'])} | {ms(times['nothing'])} | {times['recovery'] / times['plain']:.2f} "
+            f"| {count:,} | {size:,} | {ms(times['recovery'])} | {ms(times['plain'])} | {ms(times['in place'])} | {ms(times['nothing'])} | {times['recovery'] / times['plain']:.2f} "
             f"| {(times['recovery'] - times['nothing']) / times['plain']:.2f} | {AIM} |"
         )
     lines += [
@@ -185,7 +203,7 @@ def page(recoveries, save, repeats, load, folder):
         "## One edit and a save of a book of 4 MiB",
         "",
         "\"Save\" is a run with the script `text ..` and `burst`: it reads, edits, writes journal, gate and file with their syncs, and prints the tree. \"Open\" is the same run without a script. "
-        f"\"Plain\" writes and syncs the journal and then the file, each with its folder. xmlstarlet: {version_of_xmlstarlet()}; it makes the same edit (`ed -P -L -u PATH -v VALUE`), and syncs nothing.",
+        f"\"Plain\" writes and syncs the journal, the marker and, beside the old one and with a rename, the file, each with its folder, and removes the marker. xmlstarlet: {version_of_xmlstarlet()}; it makes the same edit (`ed -P -L -u PATH -v VALUE`), and syncs nothing.",
         "",
         "| Run | Wall-clock time | Processor time |",
         "|---|---|---|",
@@ -193,6 +211,8 @@ def page(recoveries, save, repeats, load, folder):
     lines += [f"| {name} | {ms(wall)} | {ms(processor) if processor else '-'} |" for name, (wall, processor) in save.items()]
     over = save["save"][0] - save["open"][0]
     lines += ["", f"Save without open, to plain: {over / save['plain'][0]:.2f} (wall-clock time)."]
+    less = small["save"][0] - small["open"][0]
+    lines.append(f"The same of a book of 4 KiB: {ms(small['save'][0])}, open {ms(small['open'][0])}, plain {ms(small['plain'][0])}; save without open, to plain: {less / small['plain'][0]:.2f} (aim {AIM}).")
     if "xmlstarlet" in save:
         lines.append(f"Save to xmlstarlet: {save['save'][0] / save['xmlstarlet'][0]:.2f} of the wall-clock time, {save['save'][1] / save['xmlstarlet'][1]:.2f} of the processor time.")
     return "\n".join(lines) + "\n"
@@ -216,8 +236,9 @@ def main():
         for count, size in ((1, 4 * KIB), (1, 4096 * KIB), (20, 4 * KIB), (20, 512 * KIB), (1000, 4 * KIB), (1000, 64 * KIB)):
             recoveries.append((count, size, recovery_times(folder, program, count, size, words.repeats)))
             print(f"recovery of {count} files of {size} bytes: {recoveries[-1][2]}", flush=True)
+        small = save_times(folder, program, 4 * KIB, words.repeats)
         save = save_times(folder, program, 4096 * KIB - 64, words.repeats)
-        text = page(recoveries, save, words.repeats, load, home)
+        text = page(recoveries, small, save, words.repeats, load, home)
     if words.results != "-":
         Path(words.results).write_text(text)
     print(text)

@@ -1,5 +1,5 @@
 -- The path of a new file names no file of a book.
-use Rattle.std.proofs.Common.{◌≡◌, ◌∙◌, ℕ, Bool, true, false, ◌&&◌, ◌||◌, ◌==◌, List, [], ◌∷◌, ◌++◌, length, refl, sym, ap, ⊎_elim}
+use Rattle.std.proofs.Common.{◌≡◌, ◌∙◌, ℕ, Bool, true, false, ◌&&◌, ◌||◌, ◌==◌, List, [], ◌∷◌, ◌++◌, length, refl, ap, ⊎_elim}
 use Rattle.std.specs.Prelude.{codes, nat_le, nat_eq, bytes_eq, not}
 use Rattle.std.specs.List.{list_all, onto_first, slice_split, starts_with}
 use Rattle.std.proofs.lemmas.List.{append_assoc}
