@@ -4,3 +4,4 @@ pub mod Calls
 pub mod Sources
 pub mod StopLemmas
 pub mod Examples
+pub mod Theorems

@@ -9,3 +9,4 @@ pub mod TextLemmas
 pub mod FilesLemmas
 pub mod LawLemmas
 pub mod Examples
+pub mod Theorems

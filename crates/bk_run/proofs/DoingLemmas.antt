@@ -10,10 +10,10 @@ use Rattle.bk_desk.specs.declared.desk_name.DeskName.TheVariants as desk_name
 use Rattle.bk_desk.specs.declared.desk_name.DeskName.TheVariants.{Gate}
 use Rattle.bk_desk.specs.Disk.{DiskImage, DiskState, CrashState, IsCrashImage, IsCrashState, NothingPending}
 use Rattle.bk_desk.specs.CrashPoints.{AtEachCrash}
-use Rattle.bk_desk.proofs.CrashPoints.{started}
+use Rattle.bk_desk.proofs.Theorems.{started}
 use Rattle.jr_burst.specs.SavedFiles.{Files, book_files, overlaid, names, is_open_gate, recovered_files}
 use Rattle.jr_burst.specs.Commit.{IsClosed, IsOldOrNew}
-use Rattle.jr_burst.proofs.Recovering.{closed_recovers}
+use Rattle.jr_burst.proofs.Theorems.{closed_recovers}
 use Rattle.ed_spec.specs.Book.{Book, with_file, Opens}
 use Rattle.ed_spec.specs.Edit.{Edit}
 use Rattle.ed_spec.specs.Session.{Session, opened, Reply, edit, burst, done, refused, saved_files, AreDifferences, after_edit, after_burst, Does, accepts, refuses, saves}

@@ -3,3 +3,4 @@ pub mod TellingLemmas
 pub mod RunLemmas
 pub mod StopLemmas
 mod Examples
+pub mod Theorems

@@ -7,7 +7,7 @@ use Rattle.bk_desk.specs.declared.desk_name.DeskName.TheVariants as desk_name
 use Rattle.bk_desk.specs.declared.desk_name.DeskName.TheVariants.{Gate}
 use Rattle.bk_desk.specs.Disk.{DiskState, CrashState, IsCrashState, WhileTelling, Tells, TellsPrefix}
 use Rattle.bk_desk.specs.CrashPoints.{AtEachCrash}
-use Rattle.bk_desk.proofs.CrashPoints.{joined, weaker}
+use Rattle.bk_desk.proofs.Theorems.{joined, weaker}
 use Rattle.jr_burst.specs.SavedFiles.{book_files, is_open_gate, recovered_files}
 use Rattle.jr_burst.specs.Commit.{IsClosed}
 use Rattle.ed_spec.specs.Book.{Book}

@@ -4,7 +4,7 @@ use Rattle.std.proofs.lemmas.Bool.{cases_Bool, not-false}
 use Rattle.std.proofs.lemmas.Bool.Decides.{nat_tests}
 use Rattle.std.specs.List.{list_all}
 use Rattle.xt_lex.specs.Scan.{run, behind}
-use Rattle.xt_lex.proofs.StepLemmas.{run_append, behind_append}
+use Rattle.xt_lex.proofs.Theorems.{run_append, behind_append}
 use Rattle.bk_script.specs.Word.{is_blank, is_plain}
 use Rattle.bk_script.specs.Reading.{is_no_blank}
 

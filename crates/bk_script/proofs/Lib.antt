@@ -11,3 +11,4 @@ pub mod Scripts
 pub mod Unique
 pub mod Plain
 pub mod Examples
+pub mod Theorems

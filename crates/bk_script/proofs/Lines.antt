@@ -7,9 +7,7 @@ use Rattle.std.specs.List.{list_all}
 use Rattle.std.specs.Str.{IsUtf8, is_utf8}
 use Rattle.memchr.specs.Find.{IsFirstByte, is_byte}
 use Rattle.xt_lex.specs.Scan.{run, behind, after}
-use Rattle.xt_lex.proofs.Runs.{byte_len, run_is, behind_is}
-use Rattle.xt_lex.proofs.Spelling.{list_all_joined}
-use Rattle.xt_lex.proofs.StepLemmas.{bind_some, run_split, run_passes, after_takes}
+use Rattle.xt_lex.proofs.Theorems.{byte_len, run_is, behind_is, list_all_joined, bind_some, run_split, run_passes, after_takes}
 use Rattle.bk_script.specs.Word.{is_blank, IsBlank, Word, letters, AreWords}
 use Rattle.bk_script.specs.Command.{Command, edit_text, put, attr, drop_attr, insert, insert_at, delete, move, extract, inline, undo, redo, burst, tree, owner, words_of, IsCommandLine}
 use Rattle.bk_script.specs.Script.{is_no_lf, ends_in_cr, IsEndedLine, IsSplit, IsComment, IsLine}

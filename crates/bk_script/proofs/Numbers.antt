@@ -5,7 +5,7 @@ use Rattle.std.proofs.lemmas.List.{drop_more}
 use Rattle.std.specs.List.{list_all}
 use Rattle.xt_spec.specs.Reference.{is_decimal_digit, digit_value, number_behind}
 use Rattle.xt_lex.specs.Scan.{maybe}
-use Rattle.xt_lex.proofs.Numbers.{number_grows}
+use Rattle.xt_lex.proofs.Theorems.{number_grows}
 use Rattle.bk_script.specs.Word.{IsNumber, begins_with}
 use Rattle.bk_script.specs.Reading.{number_with, number_from, number_of}
 

@@ -5,7 +5,7 @@ use Rattle.std.proofs.lemmas.List.{length-append}
 use Rattle.std.specs.List.{AllByRecursion}
 use Rattle.xt_spec.specs.Reference.{is_decimal_digit}
 use Rattle.xt_lex.specs.Scan.{run, behind, after}
-use Rattle.xt_lex.proofs.StepLemmas.{bind_some, run_split, after_takes}
+use Rattle.xt_lex.proofs.Theorems.{bind_some, run_split, after_takes}
 use Rattle.bk_script.specs.Word.{IsNumber, IsStep, Place, IsPlace, ArePlaceNumbers, AreSpelled}
 use Rattle.bk_script.specs.Reading.{number_of, not_zero, step_at, parts_of, all_read, place_of}
 use Rattle.bk_script.specs.View.{place_from}

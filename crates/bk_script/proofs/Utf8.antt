@@ -6,9 +6,7 @@ use Rattle.std.specs.List.{list_all, prefix_len}
 use Rattle.std.specs.Str.{IsUtf8}
 use Rattle.xt_spec.specs.Reference.{is_hexadecimal_digit}
 use Rattle.xt_lex.specs.Scan.{behind}
-use Rattle.xt_lex.proofs.Runs.{behind_is, boundary_at_stop, hexadecimal_ascii}
-use Rattle.xt_lex.proofs.Spelling.{list_all_weaker, list_all_joined}
-use Rattle.xt_lex.proofs.StepLemmas.{utf8_behind}
+use Rattle.xt_lex.proofs.Theorems.{behind_is, boundary_at_stop, hexadecimal_ascii, list_all_weaker, list_all_joined, utf8_behind}
 use Rattle.bk_script.specs.Word.{is_plain, IsEscape}
 use Rattle.bk_script.specs.Reading.{IsPushed}
 use Rattle.bk_script.proofs.Fronts.{no_plain_ascii}

@@ -6,7 +6,7 @@ use Rattle.xt_spec.specs.Content.{nothing_given, element_content, text_content, 
 use Rattle.xt_spec.specs.Namespace.{NamedValue, Binding, xml_namespace, xml_scope}
 use Rattle.xt_spec.specs.Reading.{document, entity}
 use Rattle.xt_spec.specs.Tree.{Items, nil, element, leaf, text_item, comment_item, gap}
-use Rattle.bk_name.proofs.Examples.{escapes, no_port, joined_with_fragment, fragment_of_joined}
+use Rattle.bk_name.proofs.Theorems.{escapes, no_port, joined_with_fragment, fragment_of_joined}
 use Rattle.bk_spec.specs.Node.{Origin, owned, from_entity, How, written, by_default, by_fixup, Attr, Head, Nodes, no_nodes, element_node, text_node, comment_node}
 use Rattle.bk_spec.specs.NodePaths.{node_paths}
 use Rattle.bk_spec.specs.IncludeKind.{two_fallbacks, encoding}

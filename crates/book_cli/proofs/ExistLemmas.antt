@@ -18,10 +18,10 @@ use Rattle.bk_script.specs.Script.{AreRead, IsScript}
 use Rattle.bk_script.specs.Reading.{line_of, Outcome, added, and_then, lines_read, lines_of, script_read}
 use Rattle.bk_script.specs.declared.script.ScriptFault.{ScriptFault}
 use Rattle.bk_script.specs.declared.script.ScriptFault.TheVariants.{Long, BadLine, Many, NoMemory}
-use Rattle.bk_script.proofs.Scripts.{script_takes, fault_takes}
+use Rattle.bk_script.proofs.Theorems.{script_takes, fault_takes}
 use Rattle.jr_burst.specs.SavedFiles.{recovered_files}
 use Rattle.bk_run.specs.Replies.{IsCommandOf, AreCommandsOf, replies_text, any_refused}
-use Rattle.bk_run.proofs.RunLemmas.{opened_runs}
+use Rattle.bk_run.proofs.Theorems.{opened_runs}
 use Rattle.book_cli.specs.Words.{root_of}
 use Rattle.book_cli.specs.Output.{usage_line, journal_line, IsScriptLine, status_after, IsRun, closed, ran, ScriptOutput, no_script, damaged, recovered, RootOutput, IsOutput}
 use Rattle.book_cli.specs.Leaves.{RecoveredBook}

@@ -4,7 +4,7 @@ use Rattle.std.specs.Prelude.{IsTrue}
 use Rattle.std.proofs.lemmas.List.{append-nil}
 use Rattle.bk_desk.specs.Disk.{DiskImage, DiskState, CrashState, IsCrashState, WhileTelling}
 use Rattle.bk_desk.specs.CrashPoints.{AtEachCrash}
-use Rattle.bk_desk.proofs.CrashPoints.{started, weaker}
+use Rattle.bk_desk.proofs.Theorems.{started, weaker}
 use Rattle.bk_script.specs.Command as script
 use Rattle.bk_script.specs.Script.{IsScript, IsFaultOf}
 use Rattle.bk_script.specs.declared.script.ScriptFault.{ScriptFault}

@@ -16,7 +16,7 @@ use Rattle.bk_script.specs.Command as script
 use Rattle.bk_script.specs.Script.{IsScript, IsFaultOf}
 use Rattle.bk_script.specs.declared.script.ScriptFault.{ScriptFault}
 use Rattle.bk_script.specs.declared.script.ScriptFault.TheVariants.{Long, BadLine, Many, NoMemory}
-use Rattle.bk_script.proofs.Scripts.{one_reading, no_fault, one_fault}
+use Rattle.bk_script.proofs.Theorems.{one_reading, no_fault, one_fault}
 use Rattle.jr_burst.specs.SavedFiles.{recovered_files}
 use Rattle.bk_run.specs.Replies.{IsCommandOf, AreCommandsOf, replies_text}
 use Rattle.book_cli.specs.Words.{root_of}

@@ -12,7 +12,7 @@ use Rattle.bk_script.specs.Script.{IsScript, IsFaultOf}
 use Rattle.bk_script.specs.declared.script.ScriptFault.{ScriptFault}
 use Rattle.bk_script.specs.Reading.{command_at, line_of, lines_of, lines_read, parts_of, script_read, word_at}
 use Rattle.bk_script.specs.declared.script.ScriptFault.TheVariants.{BadLine, NoMemory}
-use Rattle.bk_script.proofs.Scripts.{script_takes, no_fault}
+use Rattle.bk_script.proofs.Theorems.{script_takes, no_fault}
 use Rattle.jr_burst.specs.SavedFiles.{open_text}
 use Rattle.bk_spec.specs.Fault as fault
 use Rattle.bk_spec.specs.FirstFault as first

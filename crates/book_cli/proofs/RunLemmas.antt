@@ -7,17 +7,16 @@ use Rattle.xt_spec.specs.Limit.{most_file_bytes}
 use Rattle.bk_desk.specs.declared.desk_name.DeskName.TheVariants as desk
 use Rattle.bk_desk.specs.Disk.{DiskImage, DiskState, CrashState, IsCrashImage, IsCrashState, WhileTelling, Syncs}
 use Rattle.bk_desk.specs.CrashPoints.{AtEachCrash}
-use Rattle.bk_desk.proofs.CrashPoints.{joined, weaker}
+use Rattle.bk_desk.proofs.Theorems.{joined, weaker}
 use Rattle.jr_form.specs.declared.item.Item.{Item}
 use Rattle.jr_burst.specs.SavedFiles.{Files, book_files, overlaid, names, is_open_gate, items_in, recovered_files}
 use Rattle.jr_burst.specs.Recover.{RecoversAlike, IsUnnamed, IsStartOrRecovered, IsRecovered, IsOnlySynced}
-use Rattle.jr_burst.proofs.Recovering.{open_recovers, closed_recovers}
-use Rattle.jr_burst.proofs.Overlay.{overlaid_other}
+use Rattle.jr_burst.proofs.Theorems.{open_recovers, closed_recovers, overlaid_other}
 use Rattle.ed_spec.specs.Book.{Book}
 use Rattle.ed_spec.specs.Session.{Step}
 use Rattle.bk_script.specs.Command as script
 use Rattle.bk_script.specs.Script.{IsScript}
-use Rattle.bk_script.proofs.Scripts.{one_reading}
+use Rattle.bk_script.proofs.Theorems.{one_reading}
 use Rattle.ed_session.specs.Start.{file_steps, recovered_steps}
 use Rattle.bk_run.specs.Replies.{replies_text}
 use Rattle.bk_run.specs.Stops.{IsOfOneBurst}

@@ -6,7 +6,7 @@ use Rattle.std.proofs.lemmas.List.{take_all, take-append-le}
 use Rattle.bk_desk.specs.declared.desk_name.DeskName.TheVariants.{Gate}
 use Rattle.bk_desk.specs.Disk.{DiskState, CrashState, DiskImage, WhileTelling}
 use Rattle.bk_desk.specs.CrashPoints.{AtEachCrash}
-use Rattle.bk_desk.proofs.CrashPoints.{joined, weaker}
+use Rattle.bk_desk.proofs.Theorems.{joined, weaker}
 use Rattle.jr_burst.specs.SavedFiles.{book_files, is_open_gate}
 use Rattle.ed_spec.specs.Book.{Book}
 use Rattle.ed_spec.specs.Session.{Session, Step, opened, DoesAll}
@@ -19,9 +19,7 @@ use Rattle.bk_run.specs.Replies.{replies_text, any_refused}
 use Rattle.bk_run.specs.Stops.{saved_after, IsOfOneBurst}
 use Rattle.bk_run.specs.Doing.{asked_of}
 use Rattle.bk_run.specs.Telling.{AreTold}
-use Rattle.bk_run.proofs.DoingLemmas.{file_there, start_opens}
-use Rattle.bk_run.proofs.RunLemmas.{opened_runs}
-use Rattle.bk_run.proofs.TellingLemmas.{asks_all, saved_by, stop_last}
+use Rattle.bk_run.proofs.Theorems.{file_there, start_opens, opened_runs, asks_all, saved_by, stop_last}
 use Rattle.book_cli.specs.Output.{IsTree, IsRun, status_after}
 use Rattle.book_cli.specs.Ends.{AnswersWith, whole, cut, IsToldWith, IsSessionRun}
 use Rattle.book_cli.proofs.OutputLemmas.{tree_exists}

@@ -3,7 +3,7 @@ use Rattle.std.proofs.Common.{◌≡◌, ◌∙◌, ◌⊎◌, ℕ, List, refl, 
 use Rattle.std.proofs.lemmas.List.{append-nil}
 use Rattle.bk_desk.specs.Disk.{DiskState, CrashState, IsCrashState, WhileTelling, TellsPrefix}
 use Rattle.bk_desk.specs.CrashPoints.{Elapses, AtEachCrash}
-use Rattle.bk_desk.proofs.CrashPoints.{started, goes_on}
+use Rattle.bk_desk.proofs.Theorems.{started, goes_on}
 use Rattle.book_cli.specs.Ends.{cut, IsToldWith}
 
 -- before a call tells anything

@@ -6,10 +6,7 @@
 use Rattle.std.specs.Prelude.{◌≡◌, ℕ, ◌==◌, List, [], ◌∷◌, drop, if◌then◌else◌, Option, Some, None}
 use Rattle.xt_spec.specs.Tree.{Items}
 use Rattle.xt_spec.specs.Reading.{document, IsReading}
-use Rattle.xt_read.specs.declared.unread.Unread.{Unread}
-use Rattle.xt_read.specs.declared.unread.Unread.TheVariants as unread
-use Rattle.xt_read.specs.declared.front.FileRole.TheVariants as role
-use Rattle.xt_read.specs.Faults.{IsFaultOf}
+use Rattle.xt_spec.specs.FirstFault.{ReadingFault, not_utf8, encoding, not_well_formed, too_deep, IsFirstFault}
 use Rattle.book_where.specs.declared.fault.Rule.{Rule}
 use Rattle.book_where.specs.declared.fault.Rule.TheVariants as rule
 use Rattle.book_where.specs.declared.fault.Found.{Found}
@@ -25,19 +22,17 @@ begun (b ∷ rest) =
     if b == 0x3C then begun_by_angle rest
     else (if b == 0x26 then rule.Reference else (if b == 0x5D then rule.Bracket else rule.Characters))
 
--- want of memory is no fault of the document
-abbrev pub found_of : List ℕ → Unread → Option Found
-found_of bytes (unread.NotUtf8 at) = Some (record { at = Some at; rule = rule.NotUtf8 })
-found_of bytes unread.Encoding = Some (record { at = Some 0; rule = rule.Encoding })
-found_of bytes (unread.NotWellFormed at) = Some (record { at = Some at; rule = begun (drop at bytes) })
-found_of bytes unread.TooDeep = Some (record { at = None; rule = rule.TooDeep })
-found_of bytes unread.NoMemory = None
+abbrev pub found_of : List ℕ → ReadingFault → Found
+found_of bytes (not_utf8 at) = record { at = Some at; rule = rule.NotUtf8 }
+found_of bytes encoding = record { at = Some 0; rule = rule.Encoding }
+found_of bytes (not_well_formed at) = record { at = Some at; rule = begun (drop at bytes) }
+found_of bytes too_deep = record { at = None; rule = rule.TooDeep }
 
--- a first fault of the document that has this place and rule
+-- the first fault of the document has this place and rule
 pub record IsFirst (bytes : List ℕ) (found : Found) : Type 0 where
-  pub fault : Unread
-  pub first : IsFaultOf role.Document bytes fault
-  pub is : found_of bytes fault ≡ Some found
+  pub fault : ReadingFault
+  pub first : IsFirstFault document bytes fault
+  pub is : found_of bytes fault ≡ found
 
 abbrev pub IsFound : List ℕ → Option Found → Type 0
 IsFound bytes None = (items : Items) × IsReading document bytes items

@@ -9,8 +9,7 @@ use Rattle.xt_spec.specs.Paths.{item_at}
 use Rattle.ed_spec.specs.TextEdit.{text_written}
 use Rattle.ed_spec.specs.Book.{Book, with_file, Opens}
 use Rattle.ed_spec.specs.Edit.{text_edit, range_replaced, Accepts, AcceptsIn}
-use Rattle.ed_text.proofs.StandingLemmas.{text_found}
-use Rattle.ed_text.proofs.Theorems.{same_replaced}
+use Rattle.ed_text.proofs.Theorems.{text_found, same_replaced}
 use Rattle.ed_laws.specs.Bytes.{StandsBetween, ChangesOneText}
 use Rattle.ed_laws.proofs.Nodes.{text_of_item}
 use Rattle.ed_laws.proofs.Outcomes.{accepted_is}

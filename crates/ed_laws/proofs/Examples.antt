@@ -6,7 +6,7 @@ use Rattle.ed_spec.specs.Book.{Book}
 use Rattle.ed_spec.specs.Session.{edit, burst, done, saved_files, Step}
 use Rattle.ed_spec.specs.Session as session
 use Rattle.ed_spec.specs.Edit.{Edit, text_edit, no_such_place, wrong_kind, bad_range, no_node, no_text, no_range, accepted}
-use Rattle.xt_spec.proofs.PathLemmas.{source_text-append}
+use Rattle.xt_spec.proofs.Theorems.{source_text-append}
 use Rattle.ed_laws.specs.Outcome.{refused, gives, HasOutcome}
 use Rattle.ed_laws.specs.Bytes.{StandsBetween}
 use Rattle.ed_laws.specs.LocalSteps.{IsLocalStep, AreLocalSteps}

@@ -15,8 +15,7 @@ use Rattle.xt_spec.specs.Markup.{IsSectionOf}
 use Rattle.xt_spec.specs.Token.{TokenKind, char_data, char_ref, entity_ref, cdata_section, IsPlain, IsLongestFront}
 use Rattle.xt_spec.specs.Text.{TextPart, data_part, reference_part, section_part, part_text, parts_text, parts_value, begins_with_data, AreTextParts, IsTextItem, HasTextValue}
 use Rattle.xt_lex.specs.Place.{Follows}
-use Rattle.xt_lex.proofs.Fronts.{delimited_begins}
-use Rattle.xt_lex.proofs.Theorems.{front_some, token_longest, stands_unique, stands_spells}
+use Rattle.xt_lex.proofs.Theorems.{delimited_begins, front_some, token_longest, stands_unique, stands_spells}
 
 -- ---- line ends, over characters
 

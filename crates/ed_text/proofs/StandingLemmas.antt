@@ -3,7 +3,7 @@ use Rattle.std.proofs.Common.{◌≡◌, ◌∙◌, ◌+◌, ℕ, zero, suc, Lis
 use Rattle.std.proofs.lemmas.List.{take_at, drop_at}
 use Rattle.xt_spec.specs.Tree.{Items, nil, element, leaf, leaf_item, text_item, source_text, close_text}
 use Rattle.xt_spec.specs.Paths.{item_in, item_at, replaced_in}
-use Rattle.xt_spec.proofs.PathLemmas.{source_text-append}
+use Rattle.xt_spec.proofs.Theorems.{source_text-append}
 use Rattle.xt_tree.specs.Spans.{Stands}
 
 -- the bytes before it, its own and those behind it; what is put in its place comes between

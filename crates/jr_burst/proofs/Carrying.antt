@@ -8,7 +8,7 @@ use Rattle.bk_desk.specs.declared.desk_name.DeskName.{DeskName}
 use Rattle.bk_desk.specs.declared.desk_name.DeskName.TheVariants.{Book, Journal, Gate}
 use Rattle.bk_desk.specs.Disk.{DiskImage, DiskState, CrashState, IsCrashState, WhileWriting, Replaces, Syncs, NothingPending}
 use Rattle.bk_desk.specs.CrashPoints.{Elapses, AtEachCrash}
-use Rattle.bk_desk.proofs.CrashPoints.{started, goes_on}
+use Rattle.bk_desk.proofs.Theorems.{started, goes_on}
 use Rattle.jr_form.specs.declared.item.Item.{Item}
 use Rattle.jr_burst.specs.SavedFiles.{Files, book_files, overlaid, names, is_open_gate, items_in, laid_over, recovered_files}
 use Rattle.jr_burst.specs.Commit.{HasOpenJournal, IsCarriedOut, Leaves, RecoversTo, IsOldOrNew}

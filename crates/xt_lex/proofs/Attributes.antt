@@ -15,7 +15,7 @@ use Rattle.xt_lex.proofs.NameLemmas.{qname_nonempty, qname_bytes}
 use Rattle.xt_lex.proofs.StepLemmas.{bind_some, run_split, run_passes, behind_append, after_takes, after_qname_takes, space_no_name, tag_again, utf8_behind}
 use Rattle.xt_lex.proofs.Utf8.{blank_utf8, qname_utf8, ascii}
 use Rattle.xt_lex.proofs.Values.{behind_shorter, quoted_takes, quoted_again, quoted_utf8, quoted_shorter}
-pub use Rattle.xt_scan.proofs.Steps.{utf8_rest}
+pub use Rattle.xt_scan.proofs.Theorems.{utf8_rest}
 
 pub space_takes : (s r : List ℕ) → after_space s ≡ Some r → (p : List ℕ) × IsSpace p × (s ≡ p ++ r)
 space_takes [] r h = absurd (cc)

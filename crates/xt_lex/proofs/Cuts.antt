@@ -15,9 +15,7 @@ use Rattle.xt_lex.specs.Scan.{after_all, cut_either, cut, are_chars, after_chars
 use Rattle.xt_lex.proofs.Spelling.{encode_small, list_all_behind, strip}
 use Rattle.xt_lex.proofs.StepLemmas.{bind_some}
 use Rattle.xt_lex.proofs.Utf8.{char_scalar}
-pub use Rattle.xt_scan.proofs.Steps.{after_all_takes, after_all_again}
-pub use Rattle.xt_scan.proofs.Calls.{stripped, after_all_is}
-pub use Rattle.xt_scan.proofs.Leaves.{front_utf8}
+pub use Rattle.xt_scan.proofs.Theorems.{after_all_takes, after_all_again, stripped, after_all_is, front_utf8}
 
 none_by : (needle s : List ℕ) → ((rest : List ℕ) → s ≢ needle ++ rest) → (o : Option (List ℕ)) → after_all needle s ≡ o → None ≡ o
 none_by needle s h None e = refl

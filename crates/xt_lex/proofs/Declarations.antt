@@ -13,11 +13,7 @@ use Rattle.xt_spec.specs.Tag.{IsEq}
 use Rattle.xt_scan.specs.Look.{sees, in_class, anything, solid_in}
 use Rattle.xt_scan.specs.Form.{MaybeSpells}
 use Rattle.xt_scan.specs.Front.{whole}
-use Rattle.xt_scan.proofs.Looks.{sees_apart, sees_anything, sees_nothing}
-use Rattle.xt_scan.proofs.Laws.{Leads, Lawful, lawful_both, lawful_given, lawful_such, lawful_maybe}
-use Rattle.xt_scan.proofs.Leaves.{lawful_word, lawful_space, lawful_blank, lawful_quoted_ascii}
-use Rattle.xt_scan.proofs.Steps.{Stops, stops_at, all_weaker}
-use Rattle.xt_scan.proofs.Theorems.{whole_takes, one_value, whole_none}
+use Rattle.xt_scan.proofs.Theorems.{sees_apart, sees_anything, sees_nothing, whole_takes, one_value, whole_none, Leads, Lawful, lawful_both, lawful_given, lawful_such, lawful_maybe, lawful_word, lawful_space, lawful_blank, lawful_quoted_ascii, Stops, stops_at, all_weaker}
 use Rattle.xt_lex.specs.DeclaredValues.{values_of}
 use Rattle.xt_lex.specs.declared.declaration.Declaration.{Declaration as Values}
 use Rattle.xt_lex.specs.NameTest.{is_name_byte, name_class}

@@ -16,7 +16,7 @@ use Rattle.xt_lex.proofs.Runs.{space_ascii}
 use Rattle.xt_lex.proofs.Spelling.{spelt_ascii, spelt_joined, list_all_weaker}
 use Rattle.xt_lex.proofs.StepLemmas.{bind_some, run_split, run_append, behind_append, name_run_utf8, space_no_name}
 use Rattle.xt_lex.proofs.Utf8.{ascii, blank_utf8}
-use Rattle.xt_scan.proofs.Steps.{space_small}
+use Rattle.xt_scan.proofs.Theorems.{space_small}
 
 pub target_takes : (s r : List ℕ) → IsUtf8 s → after_target s ≡ Some r → IsPiTarget (run is_name_byte s) × (s ≡ run is_name_byte s ++ r)
 target_takes s r u h =

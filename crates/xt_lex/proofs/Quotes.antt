@@ -4,7 +4,7 @@ use Rattle.std.proofs.lemmas.Str.{IsUtf8-append}
 use Rattle.std.specs.Str.{IsUtf8}
 use Rattle.xt_spec.specs.Char.{is_space}
 use Rattle.xt_spec.specs.Declaration.{IsQuoted}
-use Rattle.xt_scan.proofs.Leaves.{any_quoted_takes, any_quoted_again}
+use Rattle.xt_scan.proofs.Theorems.{any_quoted_takes, any_quoted_again}
 use Rattle.xt_lex.specs.Scan.{behind, quoted}
 use Rattle.xt_lex.proofs.Utf8.{ascii}
 

@@ -15,7 +15,7 @@ use Rattle.xt_lex.proofs.NameLemmas.{ncname_from_test}
 use Rattle.xt_lex.proofs.Sound.{plain_ncname, plain_ascii}
 use Rattle.xt_lex.proofs.Spelling.{encode_small, list_all_weaker}
 use Rattle.xt_lex.proofs.Utf8.{ascii}
-use Rattle.xt_scan.proofs.Steps.{space_small}
+use Rattle.xt_scan.proofs.Theorems.{space_small}
 
 pub plain_is_ncname : (name : List ℕ) → is_plain_name name ≡ true → IsNCName name
 plain_is_ncname name h = ncname_from_test name (ascii name (plain_ascii name h)) (plain_ncname name h)

@@ -8,7 +8,7 @@ use Rattle.std.proofs.lemmas.Str.{encode_ascii, NoCharPasses-byte}
 use Rattle.std.specs.List.{list_all}
 use Rattle.std.specs.Str.{NonePass}
 use Rattle.xt_spec.specs.Name.{IsSpeltBy}
-pub use Rattle.xt_scan.proofs.Steps.{strip}
+pub use Rattle.xt_scan.proofs.Theorems.{strip}
 
 pub list_all_weaker : (p q : ℕ → Bool) → ((b : ℕ) → p b ≡ true → q b ≡ true) → (xs : List ℕ) → list_all p xs ≡ true → list_all q xs ≡ true
 list_all_weaker p q weaker [] h = refl

@@ -13,7 +13,7 @@ use Rattle.std.specs.Str.{chars}
 use Rattle.xt_lex.specs.Scan.{run, behind, after, after_qname, after_ncname}
 use Rattle.xt_lex.proofs.Runs.{run_is, boundary_at_stop, stop_ascii}
 use Rattle.xt_lex.proofs.NameLemmas.{qname_from_test, test_from_qname, qname_bytes, ncname_from_test, test_from_ncname, ncname_passes}
-pub use Rattle.xt_scan.proofs.Steps.{bind_some, run_split, run_passes, utf8_behind}
+pub use Rattle.xt_scan.proofs.Theorems.{bind_some, run_split, run_passes, utf8_behind}
 
 pub run_append : (p : ℕ → Bool) (a r : List ℕ) → list_all p a ≡ true → run p (a ++ r) ≡ a ++ run p r
 run_append p [] r h = refl

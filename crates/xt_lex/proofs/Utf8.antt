@@ -11,7 +11,7 @@ use Rattle.xt_spec.specs.Name.{IsNCName, IsQName}
 use Rattle.xt_spec.specs.Tag.{IsBlank}
 use Rattle.xt_lex.proofs.Runs.{space_ascii}
 use Rattle.xt_lex.proofs.NameLemmas.{all_scalars, name_all}
-pub use Rattle.xt_scan.proofs.Steps.{ascii_from, ascii, blank_utf8}
+pub use Rattle.xt_scan.proofs.Theorems.{ascii_from, ascii, blank_utf8}
 
 pub char_scalar : (c : ℕ) → is_char c ≡ true → scalar c ≡ true
 char_scalar c h = grind (arith, nat_tests)

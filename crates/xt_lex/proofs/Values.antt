@@ -17,7 +17,7 @@ use Rattle.xt_lex.proofs.Runs.{run_is, boundary_at_stop}
 use Rattle.xt_lex.proofs.Spelling.{list_all_weaker, list_all_joined, list_all_behind, spelt_joined, spelt_char, strip, bytes_lack}
 use Rattle.xt_lex.proofs.StepLemmas.{run_split, run_passes, run_append, behind_append, after_takes, utf8_behind}
 use Rattle.xt_lex.proofs.Utf8.{char_scalar, ascii}
-use Rattle.xt_scan.proofs.Leaves.{quote_small}
+use Rattle.xt_scan.proofs.Theorems.{quote_small}
 
 found_some : {A : Type 0} (o : Option A) → is_found o ≡ true → (x : A) × (o ≡ Some x)
 found_some None h = absurd (cc)

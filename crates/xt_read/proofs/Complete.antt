@@ -5,8 +5,7 @@ use Rattle.std.proofs.lemmas.Str.{encode_ascii}
 use Rattle.std.proofs.lemmas.Bool.Decides.{nat_tests}
 use Rattle.std.proofs.lemmas.Slice.Eq.{bytes_eq-Decides}
 use Rattle.std.specs.List.{list_all, AllByRecursion}
-use Rattle.xt_lex.proofs.Runs.{space_ascii}
-use Rattle.xt_lex.proofs.Spelling.{list_all_behind}
+use Rattle.xt_lex.proofs.Theorems.{space_ascii, token_longest, list_all_behind}
 use Rattle.xt_spec.specs.Char.{is_space}
 use Rattle.xt_spec.specs.Reference.{IsEntityRef, IsPredefined, StandsFor}
 use Rattle.xt_spec.specs.Tag.{Tag, tag_text, IsEndTag, IsSpace}
@@ -18,7 +17,6 @@ use Rattle.xt_spec.specs.Text.{TextPart, data_part, reference_part, section_part
 use Rattle.xt_spec.specs.Reading.{are_distinct, attribute_names, tag_ending, IsElementAt, IsContent, Stage, before_doctype, before_root, behind_root, begins_with_space, Leads}
 use Rattle.xt_lex.specs.Place.{Follows}
 use Rattle.xt_read.specs.Run.{Body, document_body, content_body, IsBody, data_piece, part_piece, reference_piece, comment_piece, pi_piece, doctype_piece, Tok, start_tok, empty_tok, end_tok, piece_tok, tok_text, IsOfKind, IsToken, OpenElement, State, begin, with_text, longer, is_top, is_content, begins_root, begins_document, behind_element, has_room, with_item, with_more, with_doctype, closed, step, Reads, done, more, has_ended, IsRead}
-use Rattle.xt_lex.proofs.Theorems.{token_longest}
 use Rattle.xt_read.proofs.ItemLemmas as items
 
 -- the token stands in front of what follows it

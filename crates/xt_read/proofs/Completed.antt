@@ -1,7 +1,7 @@
 -- What is read of a body can be completed: by the end-tags of the open elements, and by `<a/>` where a document has no
 -- element yet.
 use Rattle.std.proofs.Common.{◌≡◌, List, ℕ, [], ◌∷◌, ◌++◌, true, ◌&&◌, refl, inl, lit<, Option, Some, None, codes, bytes_eq}
-use Rattle.xt_lex.proofs.Spelled.{plain_is_ncname}
+use Rattle.xt_lex.proofs.Theorems.{plain_is_ncname}
 use Rattle.xt_lex.specs.Place.{Follows}
 use Rattle.xt_spec.specs.Tag.{Tag, IsTag}
 use Rattle.xt_spec.specs.Token.{empty_tag, end_tag}

@@ -3,7 +3,7 @@ use Rattle.std.proofs.Common.{◌≡◌, ◌∙◌, ℕ, List, [], ◌++◌, len
 use Rattle.std.proofs.lemmas.List.{drop_at, append_cancel_right}
 use Rattle.xt_spec.specs.Token.{char_data, IsFront}
 use Rattle.xt_lex.specs.Place.{Follows}
-use Rattle.xt_lex.proofs.Fronts.{kinds, delimited_begins}
+use Rattle.xt_lex.proofs.Theorems.{kinds, delimited_begins}
 use Rattle.xt_read.specs.Faults.{Passes, here, past}
 use Rattle.xt_read.specs.Run.{Tok, tok_text, IsToken, State}
 use Rattle.xt_read.proofs.Tokens.{token_some}

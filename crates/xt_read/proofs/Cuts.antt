@@ -3,13 +3,12 @@ use Rattle.std.proofs.Common.{◌≡◌, ◌∙◌, ℕ, ◌+◌, ◌<◌, List,
 use Rattle.std.proofs.lemmas.List.{length-append, take_at, drop_at}
 use Rattle.std.proofs.lemmas.Bool.{not-false}
 use Rattle.std.proofs.lemmas.Str.{IsUtf8-drop}
-use Rattle.xt_lex.proofs.Runs.{boundary_at_stop, behind_is}
+use Rattle.xt_lex.proofs.Theorems.{boundary_at_stop, behind_is, run_split, run_passes}
 use Rattle.xt_spec.specs.Reference.{StandsFor}
 use Rattle.xt_read.proofs.ValueParts.{skip_same, same_same, reference_same}
 use Rattle.std.specs.Str.{IsCharBoundary}
 use Rattle.std.specs.List.{prefix_len}
 use Rattle.xt_lex.specs.Scan.{run, behind}
-use Rattle.xt_lex.proofs.StepLemmas.{run_split, run_passes}
 use Rattle.xt_read.specs.References.{is_other, LacksByte, IsUpToSemicolon, Edge, BeginsReference, IsSame, IsPastReference}
 use Rattle.xt_read.proofs.TokenSteps.{cut_behind}
 

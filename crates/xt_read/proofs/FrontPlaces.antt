@@ -32,7 +32,7 @@ use Rattle.xt_read.proofs.ItemLemmas.{items_of-append}
 use Rattle.xt_read.proofs.Sound.{read_is_body}
 use Rattle.xt_tree.specs.declared.source.Src.{Src}
 use Rattle.xt_tree.specs.Places.{marks_in, marks_of, AreInPlace}
-use Rattle.xt_tree.proofs.PlaceLemmas.{in_place-append}
+use Rattle.xt_tree.proofs.Theorems.{in_place-append}
 use Rattle.xt_read.proofs.TokenSteps.{spelled_at, stands_at}
 use Rattle.xt_read.proofs.Fronts.{longest, one_declaration, IsAfter, after_none, after_declared, IsFrontBy, unmarked, marked, is_front}
 

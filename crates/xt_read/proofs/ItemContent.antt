@@ -18,7 +18,7 @@ use Rattle.xt_tree.specs.declared.source.Src.TheOpen.{Src-F}
 use Rattle.xt_tree.specs.declared.source.Src.TheFolds.{fold-roll-Src}
 use Rattle.xt_tree.specs.Meaning.{at_span, item_step, item_of, items_in}
 use Rattle.xt_tree.specs.Places.{Mark, tag_mark, span_mark, AreInPlace, IsTagAt, ending, marks_in, marks_of, tail_marks}
-use Rattle.xt_tree.proofs.PlaceLemmas.{in_place-split}
+use Rattle.xt_tree.proofs.Theorems.{in_place-split}
 use Rattle.xt_read.proofs.Marks.{element_marks}
 use Rattle.xt_read.proofs.LeafContent.{text_content_of, comment_content_of, pi_content_of}
 use Rattle.xt_read.specs.ContentTest.{HasValue, AreSpelled, ArePlaced, GiveContent}

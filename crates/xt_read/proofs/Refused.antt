@@ -4,7 +4,7 @@ use Rattle.std.proofs.Common.{◌≡◌, ◌∙◌, ℕ, suc, ◌<◌, List, [],
 use Rattle.std.proofs.lemmas.List.Folds.{list_all-append}
 use Rattle.std.specs.List.{list_all}
 use Rattle.xt_lex.specs.Data.{IsDelimiter}
-use Rattle.xt_lex.proofs.Fronts.{kinds, not_data, delimited_begins, plain_bytes}
+use Rattle.xt_lex.proofs.Theorems.{kinds, not_data, delimited_begins, plain_bytes}
 use Rattle.xt_spec.specs.Char.{is_space}
 use Rattle.xt_spec.specs.Token.{TokenKind, char_data, Spells}
 use Rattle.xt_spec.specs.Tree.{Items, leaf_item, gap, source_text}

@@ -4,9 +4,7 @@ use Rattle.std.proofs.lemmas.List.{take-append-drop, drop-drop, length-take, len
 use Rattle.std.proofs.Math.ListN.{drop_of_length-le}
 use Rattle.std.proofs.Math.Seq.{take-add}
 use Rattle.std.proofs.lemmas.Bool.{cases_lt}
-use Rattle.xt_lex.proofs.Fronts.{front_some}
-use Rattle.xt_lex.proofs.Spelling.{encode_joined}
-use Rattle.xt_lex.proofs.DataLemmas.{drop_longer}
+use Rattle.xt_lex.proofs.Theorems.{front_some, encode_joined, drop_longer}
 use Rattle.std.proofs.lemmas.Bool.Decides.{nat_tests}
 use Rattle.std.proofs.lemmas.Slice.Eq.{bytes_eq-Decides}
 use Rattle.std.specs.List.{list_all, AllByRecursion}

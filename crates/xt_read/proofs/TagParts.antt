@@ -10,7 +10,7 @@ use Rattle.xt_lex.specs.Place.{EndsName, IsNameAt, NoNameAt, IsAttributeAt, NoAt
 use Rattle.xt_tree.specs.declared.source.Tag.{Tag as TagSrc}
 use Rattle.xt_tree.specs.Meaning.{at_span}
 use Rattle.xt_tree.specs.Places.{AreAttributesAt, ending, IsTagAt}
-use Rattle.xt_tree.proofs.PlaceLemmas.{behind, at_span_of, attribute_texts, name_stands}
+use Rattle.xt_tree.proofs.Theorems.{behind, at_span_of, attribute_texts, name_stands}
 use Rattle.xt_read.specs.Steps.{IsTagAhead, IsTagSoFar, IsEndTagAhead, IsEndTagNamed}
 use Rattle.xt_lex.proofs.Theorems.{attribute_unique, no_attribute_at_end, name_unique, tag_name_ends, end_tag_name_ends}
 use Rattle.xt_lex.specs.Place.{EndsTag}

@@ -12,7 +12,7 @@ use Rattle.xt_lex.specs.declared.token.Span.{Span}
 use Rattle.xt_tree.specs.declared.source.Tag.{Tag as TagSrc}
 use Rattle.xt_tree.specs.Meaning.{at_span}
 use Rattle.xt_tree.specs.Places.{AreAttributesAt, IsTagAt, ending}
-use Rattle.xt_tree.proofs.PlaceLemmas.{behind, attribute_texts, attribute_value_text, attributes_stand, tag_stands}
+use Rattle.xt_tree.proofs.Theorems.{behind, attribute_texts, attribute_value_text, attributes_stand, tag_stands}
 use Rattle.xt_read.proofs.ValueParts.{parts_or_none}
 use Rattle.xt_read.specs.References.{AreSingles, HasParts, IsUnquoted}
 use Rattle.xt_read.specs.ContentTest.{HasValue, StandsIn, StandAll}

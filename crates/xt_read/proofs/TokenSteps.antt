@@ -12,7 +12,7 @@ use Rattle.xt_lex.specs.declared.token.Token.{Token}
 use Rattle.xt_tree.specs.declared.source.Tag.{Tag as TagSrc}
 use Rattle.xt_tree.specs.Meaning.{at_span}
 use Rattle.xt_tree.specs.Places.{Mark, tag_mark, span_mark, tail_marks, AreInPlace, IsTagAt, ending}
-use Rattle.xt_tree.proofs.PlaceLemmas.{name_text, attribute_names_text, attributes_stand, tag_stands, in_place-append, in_place-split}
+use Rattle.xt_tree.proofs.Theorems.{name_text, attribute_names_text, attributes_stand, tag_stands, in_place-append, in_place-split}
 use Rattle.xt_read.specs.declared.reader.Reader.{Reader}
 use Rattle.xt_read.specs.declared.unread.Halt.{Halt}
 use Rattle.xt_read.specs.declared.unread.Halt.TheVariants.{Misplaced, TooDeep, NoMemory}

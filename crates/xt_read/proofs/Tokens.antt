@@ -5,9 +5,8 @@ use Rattle.xt_spec.specs.Tag.{Tag, IsEndTag}
 use Rattle.xt_spec.specs.Reference.{IsPredefined, StandsFor}
 use Rattle.xt_spec.specs.Reading.{attribute_names}
 use Rattle.xt_spec.specs.Token.{TokenKind, start_tag, empty_tag, end_tag, char_data, char_ref, entity_ref, cdata_section, comment, pi, declaration, doctype, Spells}
-use Rattle.xt_lex.proofs.Fronts.{front_some}
+use Rattle.xt_lex.proofs.Theorems.{front_some, tag_unique, name_unique, end_tag_name_ends, names_no_entity}
 use Rattle.xt_lex.specs.Place.{EndsTag}
-use Rattle.xt_lex.proofs.Theorems.{tag_unique, name_unique, end_tag_name_ends, names_no_entity}
 use Rattle.xt_read.specs.Run.{Piece, data_piece, part_piece, reference_piece, comment_piece, pi_piece, declaration_piece, doctype_piece, Tok, start_tok, empty_tok, end_tok, piece_tok, tok_text, IsToken, IsPiece, IsOfKind, AreTagNames}
 
 -- a token takes bytes

@@ -8,9 +8,8 @@ use Rattle.xt_spec.specs.Name.{IsSpeltBy, IsNCName, are_name_chars}
 use Rattle.xt_spec.specs.Reference.{NamesChar, StandsFor, is_decimal_digit, is_hexadecimal_digit}
 use Rattle.xt_spec.specs.Tag.{IsValuePart, IsReference, is_value_char}
 use Rattle.xt_spec.specs.Value.{ValuePart, characters_part, character_part, value_parts_text, begins_with_characters, AreValueParts}
-use Rattle.xt_lex.proofs.Spelling.{bytes_lack, spelt_joined, spelt_char, list_all_behind, list_all_weaker}
+use Rattle.xt_lex.proofs.Theorems.{bytes_lack, spelt_joined, spelt_char, list_all_behind, list_all_weaker, names_no_entity}
 use Rattle.xt_read.proofs.Predefined.{is_predefined}
-use Rattle.xt_lex.proofs.Theorems.{names_no_entity}
 use Rattle.xt_read.specs.References.{is_other, LacksByte, HasParts, AreSingles, Edge, BeginsReference, HasNoParts, IsSame, IsUpToSemicolon}
 
 both_parts : (a b : Bool) → a && b ≡ true → (a ≡ true) × (b ≡ true)

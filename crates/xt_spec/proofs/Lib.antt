@@ -1,2 +1,3 @@
 pub mod PathLemmas
 mod Examples
+pub mod Theorems

@@ -1,7 +1,7 @@
 -- Where a text stands, and what is closed, computed on right and wrong cases.
 use Rattle.std.proofs.Common.{◌≡◌, ◌∙◌, ℕ, List, [], ◌∷◌, ◌++◌, length, refl, ap, arith, append-nil, codes, Some, None}
 use Rattle.xt_spec.specs.Tree.{Items, nil, element, leaf, text_item, element_item, append, source_text}
-use Rattle.xt_spec.proofs.PathLemmas.{source_text-append}
+use Rattle.xt_spec.proofs.Theorems.{source_text-append}
 use Rattle.xt_tree.specs.Spans.{IsClosed, Stands}
 
 file : List ℕ

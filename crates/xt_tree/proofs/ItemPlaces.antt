@@ -4,7 +4,7 @@ use Rattle.std.proofs.lemmas.List.{drop-drop, length-drop, take_all}
 use Rattle.std.proofs.Math.Seq.{take-add}
 use Rattle.xt_spec.specs.Tree.{Items, nil, Item, element_item, leaf_item, LeafKind, text_item, reference_item, comment_item, pi_item, gap, before, source_text, close_text}
 use Rattle.xt_spec.specs.Paths.{replaced_in}
-use Rattle.xt_spec.proofs.PathLemmas.{replaced_under, replaced_in-first, replaced_in-behind, source_text-append, source_text-before, item_text}
+use Rattle.xt_spec.proofs.Theorems.{replaced_under, replaced_in-first, replaced_in-behind, source_text-append, source_text-before, item_text}
 use Rattle.xt_lex.specs.declared.token.Span.{Span}
 use Rattle.xt_tree.specs.declared.source.Tag.{Tag}
 use Rattle.xt_tree.specs.declared.source.Src.{Src, out-Src}

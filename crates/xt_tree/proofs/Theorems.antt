@@ -4,3 +4,4 @@
 --   element_is, element_marks      what an element is, and the marks of its parts
 --   in_order                       marks begin before they end
 pub use Rattle.xt_tree.proofs.ItemPlaces.{text_in_place, texts_in_place, element_is, element_marks, in_order, range_from_start, range_to_end}
+pub use Rattle.xt_tree.proofs.PlaceLemmas.{at_span_of, attribute_names_text, attribute_texts, attribute_value_text, attributes_stand, behind, in_place-append, in_place-split, name_stands, name_text, tag_stands}

@@ -3,7 +3,7 @@ use Rattle.std.proofs.Common.{◌≡◌, ◌∙◌, ℕ, zero, suc, ◌+◌, ◌
 use Rattle.std.proofs.lemmas.List.{drop_more, drop_all, take_all}
 use Rattle.xt_spec.specs.Tree.{Items, nil, Item, source_text}
 use Rattle.xt_spec.specs.Paths.{item_in, item_at, replaced_in, replaced}
-use Rattle.xt_spec.proofs.PathLemmas.{item_under, replaced_under, item_in-first, item_in-behind}
+use Rattle.xt_spec.proofs.Theorems.{item_under, replaced_under, item_in-first, item_in-behind}
 use Rattle.xt_lex.specs.declared.token.Span.{Span}
 use Rattle.xt_tree.specs.declared.source.Src.{Src, out-Src}
 use Rattle.xt_tree.specs.declared.source.Src.TheOpen.{Src-F}

@@ -9,8 +9,7 @@ use Rattle.xt_spec.specs.Reading.{tag_ending}
 use Rattle.xt_spec.specs.Namespace.{NamedValue}
 use Rattle.xt_spec.specs.Content.{Content, element_content, text_content, comment_content, pi_content, IsCommentOf, IsPiOf, typed, HaveValues, HasContent}
 use Rattle.xt_lex.specs.Place.{EndsTag}
-use Rattle.xt_lex.proofs.Theorems.{tag_unique}
-use Rattle.xt_lex.proofs.StepLemmas.{behind_append}
+use Rattle.xt_lex.proofs.Theorems.{tag_unique, behind_append}
 use Rattle.xt_value.specs.Parts.{IsCut}
 use Rattle.xt_value.proofs.MarkupLemmas.{pi_cut, pi_is_cut, data_stay}
 use Rattle.xt_value.proofs.UniqueLemmas.{text_value_unique, attribute_value_unique}

@@ -8,7 +8,7 @@ use Rattle.std.specs.List.{position_or_len}
 use Rattle.std.specs.Option.{unwrap_or}
 use Rattle.std.proofs.lemmas.Str.{IsCharBoundary-after_ascii}
 use Rattle.std.specs.Str.{IsUtf8, IsCharBoundary}
-use Rattle.xt_lex.proofs.Runs.{boundary_at_stop}
+use Rattle.xt_lex.proofs.Theorems.{boundary_at_stop}
 use Rattle.memchr.specs.Find.{is_byte, IsFirstByte}
 use Rattle.xt_value.specs.Tokens.{is_blank}
 use Rattle.xt_value.specs.Parts.{lacks_all, is_semicolon, is_cr, is_break, is_ampersand, is_mark, Stops, IsCut}

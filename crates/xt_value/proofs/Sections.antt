@@ -5,7 +5,7 @@ use Rattle.std.specs.Option.{MatchOption, option_map}
 use denote.Ref.{Bor}
 use Rattle.xt_spec.specs.Markup.{IsSectionOf}
 use Rattle.xt_lex.specs.Scan.{cut}
-use Rattle.xt_lex.proofs.Cuts.{Stays, cut_fresh_again, fresh_from_lacks}
+use Rattle.xt_lex.proofs.Theorems.{Stays, cut_fresh_again, fresh_from_lacks}
 
 stays : Stays (codes "]]>")
 stays b [] r = refl

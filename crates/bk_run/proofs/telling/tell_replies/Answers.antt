@@ -1,5 +1,5 @@
 use Rattle.std.proofs.Common.{◌≡◌, ◌∙◌, ◌||◌, Bool, arith, ap, sym}
-use Rattle.bk_desk.proofs.CrashPoints.{started}
+use Rattle.bk_desk.proofs.Theorems.{started}
 use Rattle.bk_run.specs.Stops.{IsOfOneBurst}
 use Rattle.bk_run.proofs.TellingLemmas.{none_yet, stop_at_start, more_told, all_told, does_asked, one_prefix, prefix_all, one_crash}
 use Rattle.bk_run.proofs.telling.tell_replies.Goals as goal

@@ -1,5 +1,5 @@
 use Rattle.std.proofs.lemmas.Str.Pattern.{strip_prefix_char}
-use Rattle.xt_lex.proofs.Runs.{after_is}
+use Rattle.xt_lex.proofs.Theorems.{after_is}
 use Rattle.bk_script.proofs.front.after.Goals as goal
 
 pub returns : goal.returns

@@ -1,7 +1,7 @@
 use Rattle.std.proofs.Common.{◌≡◌}
 use Rattle.std.specs.List.{prefix_len}
 use Rattle.xt_spec.specs.Reference.{is_hexadecimal_digit}
-use Rattle.xt_lex.proofs.Runs.{boundary_behind_or_start, hexadecimal_ascii, behind_is, run_is}
+use Rattle.xt_lex.proofs.Theorems.{boundary_behind_or_start, hexadecimal_ascii, behind_is, run_is}
 use Rattle.bk_script.proofs.front.split_hexadecimal.Goals as goal
 
 pub split_at-requires : goal.split_at-requires

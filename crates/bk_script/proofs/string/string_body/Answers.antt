@@ -7,7 +7,7 @@ use Rattle.bk_script.specs.Reading.{string_body_at}
 use Rattle.bk_script.proofs.Fronts.{StopsAt, behind_stops}
 use Rattle.bk_script.proofs.Strings.{body_pushed, pushed_stops, pushed_less, body_ends, body_none, body_split, body_stopped}
 use Rattle.std.proofs.lemmas.Result.{err_from_is_err_and}
-use Rattle.xt_lex.proofs.StepLemmas.{after_takes}
+use Rattle.xt_lex.proofs.Theorems.{after_takes}
 use Rattle.bk_script.proofs.string.string_body.Goals as goal
 
 pub loop-escape-init : goal.loop-escape-init

@@ -5,7 +5,7 @@ use Rattle.jr_burst.specs.SavedFiles.{book_files}
 use Rattle.jr_burst.specs.Recover.{IsStartOrRecovered}
 use Rattle.bk_script.specs.View.{command_of}
 use Rattle.ed_session.specs.Start.{IsStarted}
-use Rattle.bk_run.proofs.DoingLemmas.{told_stays}
+use Rattle.bk_run.proofs.Theorems.{told_stays}
 use Rattle.bk_spec.specs.Fault.{fault_line}
 use Rattle.bk_info.specs.Nodes.{fault_in}
 use Rattle.book_cli.specs.Output.{closed}

@@ -3,8 +3,7 @@ use Rattle.bk_desk.specs.CrashPoints.{AtEachCrash}
 use Rattle.jr_burst.specs.SavedFiles.{book_files}
 use Rattle.ed_spec.specs.Session.{opened}
 use Rattle.bk_run.specs.Doing.{asked_of}
-use Rattle.bk_run.proofs.DoingLemmas.{start_stands}
-use Rattle.bk_run.proofs.TellingLemmas.{asks_all}
+use Rattle.bk_run.proofs.Theorems.{start_stands, asks_all}
 use Rattle.book_cli.proofs.SessionLemmas.{replies_of, session_failed, session_ended, root_there, tree_there}
 use Rattle.book_cli.proofs.run.run_session.Goals as goal
 

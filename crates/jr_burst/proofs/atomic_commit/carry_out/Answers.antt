@@ -1,6 +1,6 @@
 use Rattle.std.proofs.Common.{arith}
 use Rattle.std.proofs.lemmas.Result.{on_ok_weaker}
-use Rattle.bk_desk.proofs.CrashPoints.{goes_on}
+use Rattle.bk_desk.proofs.Theorems.{goes_on}
 use Rattle.jr_burst.proofs.Carrying.{one_more, in_between, way_at, way_ends, is_carried_out}
 use Rattle.jr_burst.proofs.atomic_commit.carry_out.Goals as goal
 

@@ -1,5 +1,5 @@
 use Rattle.std.proofs.Common.{◌≡◌, ◌∙◌, List, subst}
-use Rattle.bk_desk.proofs.CrashPoints.{joined, weaker}
+use Rattle.bk_desk.proofs.Theorems.{joined, weaker}
 use Rattle.jr_form.specs.declared.item.Item.{Item}
 use Rattle.bk_desk.specs.CrashPoints.{AtEachCrash}
 use Rattle.jr_burst.specs.SavedFiles.{overlaid, book_files}

@@ -1,4 +1,4 @@
-use Rattle.bk_desk.proofs.CrashPoints.{joined, weaker}
+use Rattle.bk_desk.proofs.Theorems.{joined, weaker}
 use Rattle.jr_burst.proofs.Redoing.{carrying_recovers, closing_recovers}
 use Rattle.jr_burst.proofs.recovery.redo_steps.Goals as goal
 

@@ -1,4 +1,4 @@
-use Rattle.xt_lex.proofs.Runs.{byte_len}
+use Rattle.xt_lex.proofs.Theorems.{byte_len}
 use Rattle.xt_read.proofs.content.len_before.Goals as goal
 
 pub returns : goal.returns

@@ -1,7 +1,7 @@
 use Rattle.std.proofs.Common.{◌≡◌, arith, eqb-true, ap, ◌∙◌, take, drop}
 use Rattle.std.proofs.lemmas.Bool.{not-false}
 use Rattle.std.specs.List.{prefix_len}
-use Rattle.xt_lex.proofs.Runs.{boundary_at_stop, behind_is, run_is}
+use Rattle.xt_lex.proofs.Theorems.{boundary_at_stop, behind_is, run_is}
 use Rattle.xt_read.specs.References.{is_other}
 use Rattle.xt_read.proofs.content.split_before.Goals as goal
 

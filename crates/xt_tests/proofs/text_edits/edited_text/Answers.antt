@@ -1,7 +1,7 @@
 use Rattle.std.proofs.Common.{◌∙◌, ◌∷◌, ◌++◌, [], ap, refl, length}
 use Rattle.xt_lex.specs.declared.token.Span.{Span}
 use Rattle.xt_tree.specs.declared.source.Src.TheVariants as src
-use Rattle.ed_text.proofs.TextPlaceLemmas.{text_file}
+use Rattle.ed_text.proofs.Theorems.{text_file}
 use Rattle.xt_tests.proofs.text_edits.edited_text.Goals as goal
 
 pub with_text-requires : goal.with_text-requires

@@ -1,6 +1,6 @@
 use Rattle.std.proofs.Common.{◌≡◌, List, ℕ, length, drop}
 use Rattle.xt_spec.specs.Paths.{item_at}
-use Rattle.xt_spec.proofs.PathLemmas.{item_under}
+use Rattle.xt_spec.proofs.Theorems.{item_under}
 use Rattle.xt_tree.specs.Meaning.{item_of, items_in}
 use Rattle.xt_tree.specs.Places.{marks_of, AreInPlace}
 use Rattle.xt_tree.proofs.Walks.{Walks}

@@ -1,7 +1,7 @@
 use Rattle.std.proofs.Common.{◌≡◌, ◌∙◌, ℕ, ap, drop}
 use Rattle.std.specs.List.{prefix_len}
 use Rattle.xt_spec.specs.Char.{is_space}
-use Rattle.xt_lex.proofs.Runs.{boundary_behind, space_ascii, behind_is}
+use Rattle.xt_lex.proofs.Theorems.{boundary_behind, space_ascii, behind_is}
 use Rattle.xt_value.proofs.cuts.behind_space.Goals as goal
 
 pub range_from-requires : goal.range_from-requires

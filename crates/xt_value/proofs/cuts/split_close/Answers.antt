@@ -1,6 +1,6 @@
 use Rattle.std.proofs.Common.{◌≡◌, ◌+◌, List, ℕ, take, drop, Some, None, codes, sym, subst, refl, arith}
 use Rattle.memchr.specs.Find.{FindsNeedle}
-use Rattle.xt_lex.proofs.Cuts.{cut_found, cut_missed, cut_behind}
+use Rattle.xt_lex.proofs.Theorems.{cut_found, cut_missed, cut_behind}
 use Rattle.xt_value.proofs.cuts.split_close.Goals as goal
 
 pub range_from-requires : goal.range_from-requires

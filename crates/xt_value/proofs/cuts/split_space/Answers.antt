@@ -1,7 +1,7 @@
 use Rattle.std.proofs.Common.{◌≡◌}
 use Rattle.std.specs.List.{position_or_len}
 use Rattle.xt_spec.specs.Char.{is_space}
-use Rattle.xt_lex.proofs.Runs.{space_ascii}
+use Rattle.xt_lex.proofs.Theorems.{space_ascii}
 use Rattle.xt_value.proofs.Searches.{cut_at, may_cut}
 use Rattle.xt_value.proofs.cuts.split_space.Goals as goal
 

@@ -1,0 +1,2 @@
+-- What the crates above cite.
+pub use Rattle.bk_desk.proofs.CrashPoints.{goes_on, joined, started, weaker}

@@ -1,0 +1,2 @@
+-- What the crates above cite.
+pub use Rattle.bk_name.proofs.Examples.{escapes, fragment_of_joined, joined_with_fragment, no_port}
