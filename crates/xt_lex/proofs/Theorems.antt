@@ -33,3 +33,4 @@ pub use Rattle.xt_lex.proofs.Runs.{after_is, behind_is, boundary_at_stop, bounda
 pub use Rattle.xt_lex.proofs.Spelled.{plain_is_ncname}
 pub use Rattle.xt_lex.proofs.Spelling.{bytes_lack, encode_joined, list_all_behind, list_all_joined, list_all_weaker, spelt_char, spelt_joined}
 pub use Rattle.xt_lex.proofs.StepLemmas.{after_takes, behind_append, bind_some, run_append, run_passes, run_split, space_no_name, utf8_behind}
+pub use Rattle.xt_lex.proofs.Utf8.{ascii, char_scalar}

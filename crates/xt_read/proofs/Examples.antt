@@ -6,8 +6,7 @@ use Rattle.xt_spec.specs.Declaration.{Declaration}
 use Rattle.xt_spec.specs.Reading.{mark, document, plain_text, behind_root, IsOrdered, IsReading}
 use Rattle.xt_spec.specs.Token.{start_tag, end_tag, Spells}
 use Rattle.xt_spec.specs.Tree.{Items, nil, leaf, text_item}
-use Rattle.xt_lex.proofs.Theorems.{token_longest, plain_is_ncname}
-use Rattle.xt_lex.proofs.Utf8.{ascii}
+use Rattle.xt_lex.proofs.Theorems.{token_longest, plain_is_ncname, ascii}
 use Rattle.xt_read.specs.Faults.{here, past, IsFaultOf}
 use Rattle.xt_spec.specs.Front.{NoDeclared, BeginsBody}
 use Rattle.xt_spec.specs.FirstFault.{not_well_formed, IsFirstNoChar, IsFirstFault}

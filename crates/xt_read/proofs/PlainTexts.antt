@@ -14,8 +14,7 @@ use Rattle.xt_spec.specs.Name.{IsSpeltBy}
 use Rattle.xt_spec.specs.Tree.{Items, nil, element, leaf, text_item, reference_item, comment_item, pi_item, gap, source_text}
 use Rattle.xt_spec.specs.Reading.{mark, plain_text, IsMarked, IsOneText, IsOrdered, IsReading}
 use Rattle.xt_lex.specs.Data.{is_no_char, AreFirstChars, BeginsNoChar}
-use Rattle.xt_lex.proofs.Theorems.{list_all_behind, spelt_joined}
-use Rattle.xt_lex.proofs.Utf8.{char_scalar}
+use Rattle.xt_lex.proofs.Theorems.{list_all_behind, spelt_joined, char_scalar}
 use Rattle.xt_tree.specs.Meaning.{at_span}
 use Rattle.xt_spec.specs.FirstFault.{IsFirstNoChar}
 use Rattle.xt_read.specs.FrontSteps.{text_part, one_text_items}
