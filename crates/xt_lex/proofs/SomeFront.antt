@@ -1,12 +1,12 @@
 -- At each place of a text a token stands, or none does: the first `<` or `&`, the first `]]>` and the first character that is
 -- no Char say how far character data goes, and what stands at a `<` or `&` is found by the steps of the code.
-use Rattle.std.proofs.Common.{zero, suc, ◌≡◌, ◌≢◌, ◌∙◌, ℕ, ◌+◌, ◌-◌, ◌<◌, ◌≤◌, List, [], ◌∷◌, ◌++◌, length, get_or, take, drop, true, false, eqb, ◌⊎◌, refl, ap, sym, subst, arith, inl, inr, Option, Some, None, eqb-true, eq-eqb, encode_utf8, encode_utf8_all, codes, le_refl}
+use Rattle.std.proofs.Common.{zero, suc, ◌≡◌, ◌∙◌, ℕ, ◌-◌, ◌<◌, List, [], ◌∷◌, ◌++◌, length, get_or, take, drop, true, false, eqb, ◌⊎◌, refl, ap, sym, subst, arith, inl, inr, Option, Some, None, eqb-true, eq-eqb, encode_utf8, encode_utf8_all, codes}
 use Rattle.std.proofs.lemmas.Bool.{cases_Bool, cases_lt, both_ways}
-use Rattle.std.proofs.lemmas.List.{take_at, drop_at, length-append, length-take-le, get_or-take}
+use Rattle.std.proofs.lemmas.List.{take_at, drop_at, length-append}
 use Rattle.std.proofs.lemmas.Str.{encodes-append, IsUtf8-take, IsCharBoundary-before_ascii, IsCharBoundary-end}
 use Rattle.std.specs.Str.{IsUtf8, NonePass, IsCharBoundary}
 use Rattle.xt_spec.specs.Char.{is_char}
-use Rattle.xt_spec.specs.Token.{TokenKind, char_data, BeginsClose, NoCloseBelow, NoFront, IsLongestFront}
+use Rattle.xt_spec.specs.Token.{TokenKind, char_data, BeginsClose, NoFront, IsLongestFront}
 use Rattle.xt_lex.specs.Data.{is_no_char, AreFirstChars, IsDelimiter, IsFirstDelimiter, IsFirstClose, IsFirstData}
 use Rattle.xt_lex.specs.Scan.{delimited}
 use Rattle.xt_lex.proofs.DataLemmas.{front_data, close_reads}
