@@ -1,5 +1,5 @@
 -- Edits of a small tree and their outcomes, and where its texts stand.
-use Rattle.std.proofs.Common.{◌≡◌, ◌≢◌, ◌∙◌, sym, Option, ℕ, List, [], ◌∷◌, ◌++◌, refl, ap, get_or, arith, inr, codes, Some, None, encode_utf8_all, append-nil}
+use Rattle.std.proofs.Common.{◌≡◌, ◌≢◌, ◌∙◌, sym, Option, ℕ, List, [], ◌∷◌, ◌++◌, refl, ap, true, false, get_or, arith, inr, codes, Some, None, encode_utf8_all, append-nil}
 use Rattle.xt_spec.specs.Tree.{Items, nil, element, leaf, text_item, comment_item, leaf_item, element_item, append, source_text}
 use Rattle.xt_spec.specs.Text.{HasTextValue, section_part}
 use Rattle.ed_spec.specs.Book.{Book}
@@ -9,6 +9,8 @@ use Rattle.ed_spec.specs.Edit.{Edit, text_edit, no_such_place, wrong_kind, bad_r
 use Rattle.xt_spec.proofs.Theorems.{source_text-append}
 use Rattle.ed_laws.specs.Outcome.{refused, gives, HasOutcome}
 use Rattle.ed_laws.specs.Bytes.{StandsBetween}
+use Rattle.bk_spec.specs.Node.{Origin, Head, Nodes, no_nodes, element_node, text_node}
+use Rattle.ed_laws.specs.NodePlaces.{has_node}
 use Rattle.ed_laws.specs.LocalSteps.{IsLocalStep, AreLocalSteps}
 use Rattle.xt_escape.proofs.Theorems.{escape_has_value}
 use Rattle.ed_laws.proofs.Outcomes.{one_outcome}
@@ -97,3 +99,22 @@ writes_another root name book next place from to new apart other is = other (is.
 -- there are no steps without commands
 no_command : (root : List ℕ) (book : Book) (step : Step) → AreLocalSteps root book [] (step ∷ []) → ⊥
 no_command root book step are = are
+
+-- ---- places
+
+-- an element that holds a text: its place, that of the text, and no second one
+element_has_its_place : (head : Head) (origin : Origin) → has_node (element_node head (text_node (codes "x") origin no_nodes) no_nodes) (1 ∷ []) ≡ true
+element_has_its_place head origin = refl
+
+text_has_its_place : (head : Head) (origin : Origin) → has_node (element_node head (text_node (codes "x") origin no_nodes) no_nodes) (1 ∷ 1 ∷ []) ≡ true
+text_has_its_place head origin = refl
+
+no_second_place : (head : Head) (origin : Origin) → has_node (element_node head (text_node (codes "x") origin no_nodes) no_nodes) (1 ∷ 2 ∷ []) ≡ false
+no_second_place head origin = refl
+
+-- a place has a number, and counts from 1
+no_place : (nodes : Nodes) → has_node nodes [] ≡ false
+no_place nodes = refl
+
+no_place_0 : (head : Head) (inner others : Nodes) → has_node (element_node head inner others) (0 ∷ []) ≡ false
+no_place_0 head inner others = refl
