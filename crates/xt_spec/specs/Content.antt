@@ -4,13 +4,12 @@
 -- Here: of a document that needs no declaration, so each reference stands for a character, and there is no DOCTYPE.
 --
 --   Content      elements with what they hold, texts, comments and processing instructions
---   IsCommentOf  the text is a comment of these characters
 --   IsPiOf       the text is a processing instruction of this target and these data
 --   HasContent   the items give this content
 use Rattle.std.specs.Prelude.{◌≡◌, ℕ, Bool, false, List, [], ◌∷◌, ◌++◌, codes, bytes_eq, if◌then◌else◌}
 use Rattle.xt_spec.specs.Char.{is_space}
 use Rattle.xt_spec.specs.Tag.{Attribute, Tag, IsTag, tag_text, IsBlank}
-use Rattle.xt_spec.specs.Markup.{begins, IsPiTarget}
+use Rattle.xt_spec.specs.Markup.{begins, IsPiTarget, IsCommentOf}
 use Rattle.xt_spec.specs.Tree.{Items, nil, element, leaf, text_item, reference_item, comment_item, pi_item, gap}
 use Rattle.xt_spec.specs.LineEnds.{lines_read}
 use Rattle.xt_spec.specs.Text.{HasTextValue}
@@ -25,10 +24,6 @@ pub data Content : Type 0 where
   text_content : (value : List ℕ) → Content → Content
   comment_content : (inner : List ℕ) → Content → Content
   pi_content : (target inner : List ℕ) → Content → Content
-
--- [15] Comment, as written
-abbrev pub IsCommentOf : List ℕ → List ℕ → Type 0
-IsCommentOf text inner = text ≡ codes "<!--" ++ inner ++ codes "-->"
 
 abbrev pub begins_blank : List ℕ → Bool
 begins_blank [] = false

@@ -5,7 +5,7 @@
 --   lacks            the needle stands nowhere in the text
 --   AreChars         any number of [2] Char
 --   IsSectionOf      [18] CDSect of these characters; IsCDataSection: of some
---   IsComment        [15] Comment
+--   IsCommentOf      [15] Comment of these characters; IsComment: of some that it may hold
 --   IsPi             [16] PI
 use Rattle.std.specs.Prelude.{◌≡◌, ◌⊎◌, ℕ, Bool, true, false, not, ◌&&◌, ◌==◌, IsTrue, List, [], ◌∷◌, ◌++◌, codes}
 use Rattle.std.specs.List.{list_all}
@@ -35,11 +35,15 @@ IsSectionOf text inner = AreChars inner × IsTrue (lacks (codes "]]>") inner) ×
 
 -- [18] CDSect
 abbrev pub IsCDataSection : List ℕ → Type 0
-IsCDataSection text = (inner : List ℕ) × AreChars inner × IsTrue (lacks (codes "]]>") inner) × (text ≡ codes "<![CDATA[" ++ inner ++ codes "]]>")
+IsCDataSection text = (inner : List ℕ) × IsSectionOf text inner
+
+-- [15] Comment of these characters, as written
+abbrev pub IsCommentOf : List ℕ → List ℕ → Type 0
+IsCommentOf text inner = text ≡ codes "<!--" ++ inner ++ codes "-->"
 
 -- [15] Comment: with the first `-` of its end behind it, the text holds no `--`; so it holds none, and doesn't end in `-`
 abbrev pub IsComment : List ℕ → Type 0
-IsComment text = (inner : List ℕ) × AreChars inner × IsTrue (lacks (codes "--") (inner ++ codes "-")) × (text ≡ codes "<!--" ++ inner ++ codes "-->")
+IsComment text = (inner : List ℕ) × AreChars inner × IsTrue (lacks (codes "--") (inner ++ codes "-")) × IsCommentOf text inner
 
 -- `xml`, in any letter case
 abbrev pub is_reserved : List ℕ → Bool
