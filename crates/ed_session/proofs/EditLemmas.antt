@@ -1,5 +1,5 @@
 -- From the parts of an edit to its outcome.
-use Rattle.std.proofs.Common.{◌≡◌, ◌∙◌, ℕ, ◌<◌, ◌≤◌, List, length, sym, ap, subst, true, false, Some, Result, Vec, Global, encode_utf8_all}
+use Rattle.std.proofs.Common.{◌≡◌, ◌∙◌, refl, ℕ, ◌<◌, ◌≤◌, List, length, sym, ap, subst, true, false, Some, Result, Vec, Global, encode_utf8_all}
 use Rattle.std.specs.Prelude.{IfOk}
 use Rattle.std.specs.List.{list_all}
 use Rattle.xt_spec.specs.Limit.{most_file_bytes}
@@ -7,11 +7,12 @@ use Rattle.xt_spec.specs.Char.{is_char}
 use Rattle.xt_spec.specs.Tree.{Item, element_item, leaf_item, text_item, reference_item, comment_item, pi_item, gap, Items, source_text}
 use Rattle.xt_spec.specs.Text.{IsTextItem, HasTextValue}
 use Rattle.xt_spec.specs.Reading.{document, IsReading}
-use Rattle.xt_read.proofs.Theorems.{one_tree, no_fault}
-use Rattle.xt_read.specs.declared.front.FileRole.TheVariants as file
+use Rattle.xt_read.proofs.Theorems.{one_tree, no_first_fault}
 use Rattle.xt_read.specs.declared.unread.Unread.{Unread}
 use Rattle.xt_read.specs.declared.unread.Unread.TheVariants as unread
-use Rattle.xt_read.specs.Faults.{IsFaultOf}
+use Rattle.xt_read.specs.Faults.{reading_fault}
+use Rattle.xt_spec.specs.FirstFault.{not_utf8, encoding, not_well_formed, too_deep, IsFirstFault}
+use Rattle.std.specs.Option.{IfSome}
 use Rattle.xt_spec.specs.Paths.{item_at}
 use Rattle.ed_spec.specs.TextEdit.{text_edited}
 use Rattle.ed_spec.specs.Edit as spec
@@ -108,8 +109,12 @@ pub opens_read : (root bytes : List ℕ) (items again : Items) → Opens root by
 opens_read root bytes items again opens reading = subst (λ (is : Items). Opens root bytes is) (one_tree bytes items again opens.1.reading reading) opens
 
 -- what opens has no fault but want of memory
-pub no_fault_again : (root bytes : List ℕ) (items : Items) (fault : Unread) → Opens root bytes items → IsFaultOf file.Document bytes fault → (fault ≡ unread.NoMemory → ⊥) → ⊥
-no_fault_again root bytes items fault opens is other = other (no_fault file.Document bytes items fault opens.1.reading is)
+pub no_fault_again : (root bytes : List ℕ) (items : Items) (fault : Unread) → Opens root bytes items → IfSome (reading_fault fault) (IsFirstFault document bytes) → (fault ≡ unread.NoMemory → ⊥) → ⊥
+no_fault_again root bytes items (unread.NotUtf8 at) opens is other = no_first_fault document bytes items (not_utf8 at) opens.1.reading is
+no_fault_again root bytes items unread.Encoding opens is other = no_first_fault document bytes items encoding opens.1.reading is
+no_fault_again root bytes items (unread.NotWellFormed at) opens is other = no_first_fault document bytes items (not_well_formed at) opens.1.reading is
+no_fault_again root bytes items unread.TooDeep opens is other = no_first_fault document bytes items too_deep opens.1.reading is
+no_fault_again root bytes items unread.NoMemory opens is other = other refl
 
 pub same_edit : (result : Result (Vec ℕ Global) EditFault) (bytes : List ℕ) (items : Items) (a b : Edit) → a ≡ b → IfOk result (λ out. (root : List ℕ) → Opens root bytes items → IsEditOf root items a out.items)
     → IfOk result (λ out. (root : List ℕ) → Opens root bytes items → IsEditOf root items b out.items)

@@ -20,6 +20,8 @@ use Rattle.xt_tree.specs.Places.{marks_of, AreInPlace}
 use Rattle.ent_doc.specs.declared.fault.OpenFault.{OpenFault}
 use Rattle.ent_doc.specs.declared.fault.OpenFault.TheVariants as opening
 use Rattle.ent_doc.specs.Faults.{IsNodesFault}
+use Rattle.ent_doc.specs.Opening.{open_fault}
+use Rattle.std.specs.Option.{IfSome}
 use Rattle.ed_session.specs.Kept.{saved_of, Opens, IsMadeOf, IsOpenRoot}
 
 pub same_opens : (q r a b : List ℕ) (i j : List Src) → q ≡ r → a ≡ b → i ≡ j → Opens r b (items_in b j) → Opens q a (items_in a i)
@@ -74,10 +76,11 @@ made_of file text bytes items nodes same opens are have via =
     }
 
 -- .. so it has no fault
-pub no_fault_of_nodes : (file text bytes : List ℕ) (items : List Src) (e : OpenFault) (fault : BookFault) → e ≡ opening.Book fault → text ≡ bytes → Opens file bytes (items_in bytes items) → IsNodesFault file (items_in text items) e → ⊥
+pub no_fault_of_nodes : (file text bytes : List ℕ) (items : List Src) (e : OpenFault) (fault : BookFault) → e ≡ opening.Book fault → text ≡ bytes → Opens file bytes (items_in bytes items)
+    → IfSome (open_fault e) (IsNodesFault file (items_in text items)) → ⊥
 no_fault_of_nodes file text bytes items e fault book same (known, opens) is =
     let (content, has, gives) = opens.gives in
-    let faulty : IsNodesFault file (items_in text items) (opening.Book fault) = subst (λ (f : OpenFault). IsNodesFault file (items_in text items) f) book is in
+    let faulty : IsNodesFault file (items_in text items) (fault_in fault) = subst (λ (f : OpenFault). IfSome (open_fault f) (IsNodesFault file (items_in text items))) book is in
     let both = sym gives ∙ faulty content (subst (λ (l : List ℕ). HasContent (items_in l items) content) (sym same) has) in
     absurd (cc)
 

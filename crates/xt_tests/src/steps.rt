@@ -1,6 +1,6 @@
 //! A table of cases: what each step leaves of a text.
 
-use xt_scan::{after_blank, after_space, after_word, front_of, quoted};
+use xt_scan::{after_blank, after_space, after_word, quoted};
 
 #[test]
 fn each_step_leaves_the_rest(rt: HostRuntime) {
@@ -18,16 +18,4 @@ fn each_step_leaves_the_rest(rt: HostRuntime) {
         assert_eq!(rt; after_space(text), space, "at {text}");
         assert_eq!(rt; quoted(text), in_quotes, "at {text}");
     }
-}
-
-/// The front of a text before its rest behind optional white space and a word.
-fn front(text: &str) -> Option<&str> {
-    let rest = after_word("a", text)?;
-    Some(front_of(text, rest))
-}
-
-#[test]
-fn a_front_ends_where_its_rest_begins(rt: HostRuntime) {
-    assert_eq!(rt; front("aé"), Some("a"));
-    assert_eq!(rt; front("é"), None);
 }
