@@ -4,7 +4,7 @@ use Rattle.std.specs.Str.{is_utf8, chars}
 use Rattle.std.proofs.Math.Utf8.{encode}
 use Rattle.bk_name.specs.FileName.{is_file_name}
 use Rattle.book_cli.specs.Words.{is_root, root_of}
-use Rattle.book_cli.specs.RealFiles.{synced_with, IsFrontOf}
+use Rattle.book_cli.specs.RealFiles.{above, IsFrontOf}
 
 -- no words and two words have no reading, whatever they are
 no_words : root_of [] ≡ None
@@ -32,11 +32,11 @@ control_file : is_root (codes ".burst-gate") ≡ false
 unfolding is_file_name is_utf8 chars encode
 control_file = refl
 
--- with a file each folder above it is synced; with one of no folder the current one alone
-folders : synced_with (codes "a/b/c") ≡ codes "a/b/c" ∷ codes "a" ∷ codes "a/b" ∷ codes "." ∷ []
+-- of a file that was replaced each folder above it is synced; of one with no folder the current one alone
+folders : above (codes "a/b/c") ≡ codes "a" ∷ codes "a/b" ∷ codes "." ∷ []
 folders = refl
 
-no_folder : synced_with (codes "c") ≡ codes "c" ∷ codes "." ∷ []
+no_folder : above (codes "c") ≡ codes "." ∷ []
 no_folder = refl
 
 -- the first bytes of a reader, and no others
