@@ -3,7 +3,7 @@ use Rattle.std.proofs.Common.{◌≡◌, ℕ, true, ◌&&◌, List, [], ◌∷�
 use Rattle.std.proofs.lemmas.Bool.{and_parts}
 use Rattle.std.specs.List.{list_all}
 use Rattle.std.specs.Cmp.Lexicographic.{bytes_decides}
-use Rattle.xt_lex.specs.Scan.{run}
+use Rattle.xt_lex.specs.Scan.{take_while}
 use Rattle.xt_lex.proofs.Theorems.{bind_some}
 use Rattle.bk_script.specs.Word.{is_blank, Place, Word, letters, number, place, string, AreWords}
 use Rattle.bk_script.specs.Command.{Command, edit_text, burst, IsCommandLine, is_built}
@@ -18,7 +18,7 @@ use Rattle.bk_script.proofs.Words.{IsSolid, cut, word_again, number_solid, place
 front_word : (text : List ℕ) (word : Word) (words : List Word) → Rattle.bk_script.specs.Word.IsWord (word_at text).0 word → AreWords (word_at text).1 words → AreWords text (word ∷ words)
 front_word text word words is others =
     let c = cut text in
-    (run is_blank text, (word_at text).0, (word_at text).1, c.blank, is, c.follow, others, c.whole)
+    (take_while is_blank text, (word_at text).0, (word_at text).1, c.blank, is, c.follow, others, c.whole)
 
 record IsText (text : List ℕ) (c : Command) : Type 0 where
   pub numbers : List ℕ

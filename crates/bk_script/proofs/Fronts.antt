@@ -3,8 +3,8 @@ use Rattle.std.proofs.Common.{◌≡◌, ℕ, ◌<◌, List, [], ◌∷◌, ◌+
 use Rattle.std.proofs.lemmas.Bool.{cases_Bool, not-false}
 use Rattle.std.proofs.lemmas.Bool.Decides.{nat_tests}
 use Rattle.std.specs.List.{list_all}
-use Rattle.xt_lex.specs.Scan.{run, behind}
-use Rattle.xt_lex.proofs.Theorems.{run_append, behind_append}
+use Rattle.xt_lex.specs.Scan.{take_while, drop_while}
+use Rattle.xt_lex.proofs.Theorems.{take_while_append, drop_while_append}
 use Rattle.bk_script.specs.Word.{is_blank, is_plain}
 use Rattle.bk_script.specs.Reading.{is_no_blank}
 
@@ -13,21 +13,21 @@ abbrev pub StopsAt : (ℕ → Bool) → List ℕ → Type 0
 StopsAt p [] = Unit {0}
 StopsAt p (b ∷ bs) = p b ≡ false
 
-run_none : (p : ℕ → Bool) (r : List ℕ) → StopsAt p r → run p r ≡ []
+run_none : (p : ℕ → Bool) (r : List ℕ) → StopsAt p r → take_while p r ≡ []
 run_none p [] stops = refl
 run_none p (b ∷ bs) stops = rw stops refl
 
-behind_none : (p : ℕ → Bool) (r : List ℕ) → StopsAt p r → behind p r ≡ r
+behind_none : (p : ℕ → Bool) (r : List ℕ) → StopsAt p r → drop_while p r ≡ r
 behind_none p [] stops = refl
 behind_none p (b ∷ bs) stops = rw stops refl
 
-pub run_whole : (p : ℕ → Bool) (a r : List ℕ) → list_all p a ≡ true → StopsAt p r → run p (a ++ r) ≡ a
-run_whole p a r all stops = run_append p a r all ∙ ap (λ t. a ++ t) (run_none p r stops) ∙ append-nil a
+pub run_whole : (p : ℕ → Bool) (a r : List ℕ) → list_all p a ≡ true → StopsAt p r → take_while p (a ++ r) ≡ a
+run_whole p a r all stops = take_while_append p a r all ∙ ap (λ t. a ++ t) (run_none p r stops) ∙ append-nil a
 
-pub behind_whole : (p : ℕ → Bool) (a r : List ℕ) → list_all p a ≡ true → StopsAt p r → behind p (a ++ r) ≡ r
-behind_whole p a r all stops = behind_append p a r all ∙ behind_none p r stops
+pub behind_whole : (p : ℕ → Bool) (a r : List ℕ) → list_all p a ≡ true → StopsAt p r → drop_while p (a ++ r) ≡ r
+behind_whole p a r all stops = drop_while_append p a r all ∙ behind_none p r stops
 
-pub behind_stops : (p : ℕ → Bool) (s : List ℕ) → StopsAt p (behind p s)
+pub behind_stops : (p : ℕ → Bool) (s : List ℕ) → StopsAt p (drop_while p s)
 behind_stops p [] = tt
 behind_stops p (b ∷ bs) =
     elim (cases_Bool (p b)) [

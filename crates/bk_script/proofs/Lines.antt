@@ -6,8 +6,8 @@ use Rattle.std.proofs.lemmas.Str.{IsUtf8-from_is_utf8, is_utf8-from_IsUtf8}
 use Rattle.std.specs.List.{list_all}
 use Rattle.std.specs.Str.{IsUtf8, is_utf8}
 use Rattle.memchr.specs.Find.{IsFirstByte, is_byte}
-use Rattle.xt_lex.specs.Scan.{run, behind, after}
-use Rattle.xt_lex.proofs.Theorems.{byte_len, run_is, behind_is, list_all_joined, bind_some, run_split, run_passes, after_takes}
+use Rattle.xt_lex.specs.Scan.{take_while, drop_while, after}
+use Rattle.xt_lex.proofs.Theorems.{byte_len, take_while_is, drop_while_is, list_all_joined, bind_some, take_while_split, take_while_passes, after_takes}
 use Rattle.bk_script.specs.Word.{is_blank, IsBlank, Word, letters, AreWords}
 use Rattle.bk_script.specs.Command.{Command, edit_text, put, attr, drop_attr, insert, insert_at, delete, move, extract, inline, undo, redo, burst, tree, owner, words_of, IsCommandLine}
 use Rattle.bk_script.specs.Script.{is_no_lf, ends_in_cr, IsEndedLine, IsSplit, IsComment, IsLine}
@@ -22,16 +22,16 @@ passed_takes : (before rest : List ℕ) → IsBlank before → is_passed_over re
 passed_takes before [] blank is = inl (rw (append-nil before) blank)
 passed_takes before (b ∷ bs) blank is = inr (before, bs, blank, ap (λ (c : ℕ). before ++ c ∷ bs) (eqb-true b 35 is))
 
-pub over_takes : (text : List ℕ) → is_passed_over (behind is_blank text) ≡ true → IsBlank text ⊎ IsComment text
+pub over_takes : (text : List ℕ) → is_passed_over (drop_while is_blank text) ≡ true → IsBlank text ⊎ IsComment text
 over_takes text is =
-    subst (λ (t : List ℕ). IsBlank t ⊎ IsComment t) (sym (run_split is_blank text)) (passed_takes (run is_blank text) (behind is_blank text) (run_passes is_blank text) is)
+    subst (λ (t : List ℕ). IsBlank t ⊎ IsComment t) (sym (take_while_split is_blank text)) (passed_takes (take_while is_blank text) (drop_while is_blank text) (take_while_passes is_blank text) is)
 
-pub over_again : (text : List ℕ) → IsBlank text ⊎ IsComment text → is_passed_over (behind is_blank text) ≡ true
+pub over_again : (text : List ℕ) → IsBlank text ⊎ IsComment text → is_passed_over (drop_while is_blank text) ≡ true
 over_again text (inl blank) =
-    let e : behind is_blank text ≡ [] = ap (behind is_blank) (sym (append-nil text)) ∙ behind_whole is_blank text [] blank tt in
+    let e : drop_while is_blank text ≡ [] = ap (drop_while is_blank) (sym (append-nil text)) ∙ behind_whole is_blank text [] blank tt in
     rw e refl
 over_again text (inr (before, rest, blank, e)) =
-    let f : behind is_blank text ≡ 35 ∷ rest = ap (behind is_blank) e ∙ behind_whole is_blank before (35 ∷ rest) blank refl in
+    let f : drop_while is_blank text ≡ 35 ∷ rest = ap (drop_while is_blank) e ∙ behind_whole is_blank before (35 ∷ rest) blank refl in
     rw f refl
 
 -- each command begins with a letter
@@ -60,19 +60,19 @@ begins burst = record { first = 98; rest = codes "urst"; others = _; words = ref
 begins tree = record { first = 116; rest = codes "ree"; others = _; words = refl; no_blank = refl; no_hash = refl }
 begins (owner p) = record { first = 111; rest = codes "wner"; others = _; words = refl; no_blank = refl; no_hash = refl }
 
-not_over : (text : List ℕ) (first : ℕ) (rest : List ℕ) (others : List Word) → is_blank first ≡ false → eqb first 35 ≡ false → AreWords text (letters (first ∷ rest) ∷ others) → is_passed_over (behind is_blank text) ≡ false
+not_over : (text : List ℕ) (first : ℕ) (rest : List ℕ) (others : List Word) → is_blank first ≡ false → eqb first 35 ≡ false → AreWords text (letters (first ∷ rest) ∷ others) → is_passed_over (drop_while is_blank text) ≡ false
 not_over text first rest others no_blank no_hash (before, t, after_it, blank, is, follow, more, e) =
     let whole : text ≡ before ++ (first ∷ (rest ++ after_it)) = e ∙ ap (λ (u : List ℕ). before ++ (u ++ after_it)) is in
-    let f : behind is_blank text ≡ first ∷ (rest ++ after_it) = ap (behind is_blank) whole ∙ behind_whole is_blank before (first ∷ (rest ++ after_it)) blank no_blank in
+    let f : drop_while is_blank text ≡ first ∷ (rest ++ after_it) = ap (drop_while is_blank) whole ∙ behind_whole is_blank before (first ∷ (rest ++ after_it)) blank no_blank in
     rw (f, no_hash) refl
 
-pub command_not_over : (text : List ℕ) (c : Command) → IsCommandLine text c → is_passed_over (behind is_blank text) ≡ false
+pub command_not_over : (text : List ℕ) (c : Command) → IsCommandLine text c → is_passed_over (drop_while is_blank text) ≡ false
 command_not_over text c is =
     let b = begins c in
     not_over text b.first b.rest b.others b.no_blank b.no_hash (subst (AreWords text) b.words is)
 
 pub command_or_none : (text : List ℕ) (c : Command) → IsCommandLine text c → IsBlank text ⊎ IsComment text → ⊥
-command_or_none text c is none = both_ways (is_passed_over (behind is_blank text)) (command_not_over text c is) (over_again text none)
+command_or_none text c is none = both_ways (is_passed_over (drop_while is_blank text)) (command_not_over text c is) (over_again text none)
 
 some_takes : (text : List ℕ) (o : Option Command) (found : Option Command) → command_at text ≡ o → option_some o ≡ Some found → IsUtf8 text → IsLine text found
 some_takes text None found e f utf8 = absurd cc
@@ -85,7 +85,7 @@ pub line_takes : (text : List ℕ) (found : Option Command) → line_of text ≡
 unfolding line_of
 line_takes text found e =
     elim (choose (is_utf8 text) _ _ found e) [
-      | inl h ↦ elim (choose (is_passed_over (behind is_blank text)) _ _ found h.1) [
+      | inl h ↦ elim (choose (is_passed_over (drop_while is_blank text)) _ _ found h.1) [
         | inl k ↦ let none : ◌≡◌ {A = Option Command} None found = (let some : ◌≡◌ {A = Option (Option Command)} (Some None) (Some found) = k.1 in cc) in subst (IsLine text) none (IsUtf8-from_is_utf8 text h.0, over_takes text k.0)
         | inr k ↦ some_takes text (command_at text) found refl k (IsUtf8-from_is_utf8 text h.0)
       ]
@@ -144,12 +144,12 @@ is_ended line all =
 
 ended_takes : (s : List ℕ) (x : List ℕ × List ℕ) → ended_line_at s ≡ Some x → (t : List ℕ) × IsEndedLine t x.0 × (s ≡ t ++ x.1)
 ended_takes s x e =
-    let a = bind_some (after 10 (behind is_no_lf s)) _ x e in
-    let line = run is_no_lf s in
+    let a = bind_some (after 10 (drop_while is_no_lf s)) _ x e in
+    let line = take_while is_no_lf s in
     let ends = pair_parts (without_cr line) x.0 a.0 x.1 a.2 in (
       line ++ 10 ∷ [],
-      subst (λ (l : List ℕ). IsEndedLine (line ++ 10 ∷ []) l) ends.0 (is_ended line (run_passes is_no_lf s)),
-      run_split is_no_lf s ∙ ap (λ (l : List ℕ). line ++ l) (after_takes 10 (behind is_no_lf s) a.0 a.1 ∙ ap (λ (l : List ℕ). 10 ∷ l) ends.1) ∙ sym (append_assoc line (10 ∷ []) x.1),
+      subst (λ (l : List ℕ). IsEndedLine (line ++ 10 ∷ []) l) ends.0 (is_ended line (take_while_passes is_no_lf s)),
+      take_while_split is_no_lf s ∙ ap (λ (l : List ℕ). line ++ l) (after_takes 10 (drop_while is_no_lf s) a.0 a.1 ∙ ap (λ (l : List ℕ). 10 ∷ l) ends.1) ∙ sym (append_assoc line (10 ∷ []) x.1),
     )
 
 ended_by : (line r : List ℕ) → list_all is_no_lf line ≡ true → ended_line_at (line ++ 10 ∷ r) ≡ Some (without_cr line, r)
@@ -169,27 +169,27 @@ ended_again t r line (all, inr (no_cr, e)) any =
 
 pub ended_shrinks : Shrinks ended_line_at
 ended_shrinks s x e =
-    let a = bind_some (after 10 (behind is_no_lf s)) _ x e in
-    let ends = pair_parts (without_cr (run is_no_lf s)) x.0 a.0 x.1 a.2 in
-    omega (arith, ap length (run_split is_no_lf s), length-append (run is_no_lf s) (behind is_no_lf s), ap length (after_takes 10 (behind is_no_lf s) a.0 a.1), ap length ends.1)
+    let a = bind_some (after 10 (drop_while is_no_lf s)) _ x e in
+    let ends = pair_parts (without_cr (take_while is_no_lf s)) x.0 a.0 x.1 a.2 in
+    omega (arith, ap length (take_while_split is_no_lf s), length-append (take_while is_no_lf s) (drop_while is_no_lf s), ap length (after_takes 10 (drop_while is_no_lf s) a.0 a.1), ap length ends.1)
 
 no_line : (s : List ℕ) → list_all is_no_lf s ≡ true → ended_line_at s ≡ None
 no_line s all =
-    let e : behind is_no_lf s ≡ [] = ap (behind is_no_lf) (sym (append-nil s)) ∙ behind_whole is_no_lf s [] all tt in
+    let e : drop_while is_no_lf s ≡ [] = ap (drop_while is_no_lf) (sym (append-nil s)) ∙ behind_whole is_no_lf s [] all tt in
     rw e refl
 
-last_by : (s r : List ℕ) → behind is_no_lf s ≡ r → StopsAt is_no_lf r → ended_line_at s ≡ None → list_all is_no_lf s ≡ true
+last_by : (s r : List ℕ) → drop_while is_no_lf s ≡ r → StopsAt is_no_lf r → ended_line_at s ≡ None → list_all is_no_lf s ≡ true
 last_by s [] e stops none =
-    let whole : s ≡ run is_no_lf s = run_split is_no_lf s ∙ ap (λ (l : List ℕ). run is_no_lf s ++ l) e ∙ append-nil (run is_no_lf s) in
-    subst (λ (l : List ℕ). list_all is_no_lf l ≡ true) (sym whole) (run_passes is_no_lf s)
+    let whole : s ≡ take_while is_no_lf s = take_while_split is_no_lf s ∙ ap (λ (l : List ℕ). take_while is_no_lf s ++ l) e ∙ append-nil (take_while is_no_lf s) in
+    subst (λ (l : List ℕ). list_all is_no_lf l ≡ true) (sym whole) (take_while_passes is_no_lf s)
 last_by s (b ∷ bs) e stops none =
     let lf : eqb b 10 ≡ true = not-false _ stops in
-    let some : ended_line_at s ≡ Some (without_cr (run is_no_lf s), bs) = rw (e, lf) refl in
-    let both : ◌≡◌ {A = Option (List ℕ × List ℕ)} None (Some (without_cr (run is_no_lf s), bs)) = sym none ∙ some in
+    let some : ended_line_at s ≡ Some (without_cr (take_while is_no_lf s), bs) = rw (e, lf) refl in
+    let both : ◌≡◌ {A = Option (List ℕ × List ℕ)} None (Some (without_cr (take_while is_no_lf s), bs)) = sym none ∙ some in
     absurd cc
 
 last_line : (s : List ℕ) → ended_line_at s ≡ None → list_all is_no_lf s ≡ true
-last_line s none = last_by s (behind is_no_lf s) refl (behind_stops is_no_lf s) none
+last_line s none = last_by s (drop_while is_no_lf s) refl (behind_stops is_no_lf s) none
 
 pub lines_step : (s : List ℕ) (line r : List ℕ) → ended_line_at s ≡ Some (line, r) → lines_of s ≡ line ∷ lines_of r
 unfolding lines_of
@@ -217,15 +217,15 @@ split_takes bytes =
 pub lf_none : (s : List ℕ) → IsFirstByte (is_byte 10) s None → ended_line_at s ≡ None
 lf_none s none =
     let n = byte_len 10 s None (length s) none refl in
-    let e : behind is_no_lf s ≡ [] = sym (behind_is is_no_lf s) ∙ ap (λ (k : ℕ). drop k s) (sym n) ∙ drop_all (length s) s (le_refl (length s)) in
+    let e : drop_while is_no_lf s ≡ [] = sym (drop_while_is is_no_lf s) ∙ ap (λ (k : ℕ). drop k s) (sym n) ∙ drop_all (length s) s (le_refl (length s)) in
     rw e refl
 
 pub lf_some : (s : List ℕ) (k : ℕ) → IsFirstByte (is_byte 10) s (Some k) → ended_line_at s ≡ Some (without_cr (take k s), drop (k + 1) s)
 lf_some s k found =
     let n = byte_len 10 s (Some k) k found refl in
-    let front : run is_no_lf s ≡ take k s = sym (run_is is_no_lf s) ∙ ap (λ (i : ℕ). take i s) (sym n) in
-    let back : behind is_no_lf s ≡ 10 ∷ drop (k + 1) s =
-    sym (behind_is is_no_lf s) ∙ ap (λ (i : ℕ). drop i s) (sym n) ∙ drop_more s k 0 found.0.high ∙ ap (λ (b : ℕ). b ∷ drop (k + 1) s) (eqb-true (get_or s k 0) 10 found.1) in
+    let front : take_while is_no_lf s ≡ take k s = sym (take_while_is is_no_lf s) ∙ ap (λ (i : ℕ). take i s) (sym n) in
+    let back : drop_while is_no_lf s ≡ 10 ∷ drop (k + 1) s =
+    sym (drop_while_is is_no_lf s) ∙ ap (λ (i : ℕ). drop i s) (sym n) ∙ drop_more s k 0 found.0.high ∙ ap (λ (b : ℕ). b ∷ drop (k + 1) s) (eqb-true (get_or s k 0) 10 found.1) in
     rw (front, back) refl
 
 pub lf_found : (s : List ℕ) (k : ℕ) (line : List ℕ) → IsFirstByte (is_byte 10) s (Some k) → line ≡ without_cr (take k s) → ended_line_at s ≡ Some (line, take (length s - (k + 1)) (drop (k + 1) s))
@@ -243,20 +243,20 @@ line_no_utf8 line no_text =
       | inr e ↦ rw e refl
     ]
 
-pub line_over : (line : List ℕ) → IsUtf8 line → (text : List ℕ) → text ≡ line → is_passed_over (behind is_blank text) ≡ true → line_of line ≡ Some None
+pub line_over : (line : List ℕ) → IsUtf8 line → (text : List ℕ) → text ≡ line → is_passed_over (drop_while is_blank text) ≡ true → line_of line ≡ Some None
 unfolding line_of
 line_over line utf8 text is over =
-    let passed : is_passed_over (behind is_blank line) ≡ true = subst (λ (t : List ℕ). is_passed_over (behind is_blank t) ≡ true) is over in
+    let passed : is_passed_over (drop_while is_blank line) ≡ true = subst (λ (t : List ℕ). is_passed_over (drop_while is_blank t) ≡ true) is over in
     rw (is_utf8-from_IsUtf8 line utf8, passed) refl
 
-line_command : (line : List ℕ) → IsUtf8 line → (text : List ℕ) → text ≡ line → is_passed_over (behind is_blank text) ≡ false → line_of line ≡ option_some (command_at text)
+line_command : (line : List ℕ) → IsUtf8 line → (text : List ℕ) → text ≡ line → is_passed_over (drop_while is_blank text) ≡ false → line_of line ≡ option_some (command_at text)
 unfolding line_of
 line_command line utf8 text is over =
-    let passed : is_passed_over (behind is_blank line) ≡ false = subst (λ (t : List ℕ). is_passed_over (behind is_blank t) ≡ false) is over in
+    let passed : is_passed_over (drop_while is_blank line) ≡ false = subst (λ (t : List ℕ). is_passed_over (drop_while is_blank t) ≡ false) is over in
     rw (is_utf8-from_IsUtf8 line utf8, passed) (ap (λ (t : List ℕ). option_some (command_at t)) (sym is))
 
-pub line_found : (line : List ℕ) → IsUtf8 line → (text : List ℕ) → text ≡ line → is_passed_over (behind is_blank text) ≡ false → (c : Command) → command_at text ≡ Some c → line_of line ≡ Some (Some c)
+pub line_found : (line : List ℕ) → IsUtf8 line → (text : List ℕ) → text ≡ line → is_passed_over (drop_while is_blank text) ≡ false → (c : Command) → command_at text ≡ Some c → line_of line ≡ Some (Some c)
 line_found line utf8 text is over c found = line_command line utf8 text is over ∙ ap option_some found
 
-pub line_stopped : (line : List ℕ) → IsUtf8 line → (text : List ℕ) → text ≡ line → is_passed_over (behind is_blank text) ≡ false → command_at text ≡ None → line_of line ≡ None
+pub line_stopped : (line : List ℕ) → IsUtf8 line → (text : List ℕ) → text ≡ line → is_passed_over (drop_while is_blank text) ≡ false → command_at text ≡ None → line_of line ≡ None
 line_stopped line utf8 text is over none = line_command line utf8 text is over ∙ ap option_some none

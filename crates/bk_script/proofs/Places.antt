@@ -4,8 +4,8 @@ use Rattle.std.proofs.lemmas.Bool.{cases_Bool, ne_eqb, eqb-false}
 use Rattle.std.proofs.lemmas.List.{length-append}
 use Rattle.std.specs.List.{AllByRecursion}
 use Rattle.xt_spec.specs.Reference.{is_decimal_digit}
-use Rattle.xt_lex.specs.Scan.{run, behind, after}
-use Rattle.xt_lex.proofs.Theorems.{bind_some, run_split, after_takes}
+use Rattle.xt_lex.specs.Scan.{take_while, drop_while, after}
+use Rattle.xt_lex.proofs.Theorems.{bind_some, take_while_split, after_takes}
 use Rattle.bk_script.specs.Word.{IsNumber, IsStep, Place, IsPlace, ArePlaceNumbers, AreSpelled}
 use Rattle.bk_script.specs.Reading.{number_of, not_zero, step_at, parts_of, all_read, place_of}
 use Rattle.bk_script.specs.View.{place_from}
@@ -32,15 +32,15 @@ pub step_takes : (s : List ℕ) (x : ℕ × List ℕ) → step_at s ≡ Some x �
 unfolding step_at
 step_takes s x e =
     let a = bind_some (after 47 s) _ x e in
-    let b = bind_some (number_of (run is_decimal_digit a.0)) _ x a.2 in
+    let b = bind_some (number_of (take_while is_decimal_digit a.0)) _ x a.2 in
     let d = bind_some (not_zero b.0) _ x b.2 in
     let both = not_zero_takes b.0 d.0 d.1 in
-    let ends = pair_parts d.0 x.0 (behind is_decimal_digit a.0) x.1 d.2 in
-    let digits = run is_decimal_digit a.0 in
+    let ends = pair_parts d.0 x.0 (drop_while is_decimal_digit a.0) x.1 d.2 in
+    let digits = take_while is_decimal_digit a.0 in
     let n : b.0 ≡ x.0 = both.0 ∙ ends.0 in
     let some : x.0 ≡ 0 → ⊥ = λ z. both.1 (ends.0 ∙ z) in
     let number : IsNumber digits x.0 = subst (λ (k : ℕ). IsNumber digits k) n (number_takes digits b.0 b.1) in
-    (47 ∷ digits, (digits, number, some, refl), after_takes 47 s a.0 a.1 ∙ ap (λ (t : List ℕ). 47 ∷ t) (run_split is_decimal_digit a.0 ∙ ap (λ (t : List ℕ). digits ++ t) ends.1))
+    (47 ∷ digits, (digits, number, some, refl), after_takes 47 s a.0 a.1 ∙ ap (λ (t : List ℕ). 47 ∷ t) (take_while_split is_decimal_digit a.0 ∙ ap (λ (t : List ℕ). digits ++ t) ends.1))
 
 pub step_shrinks : Shrinks step_at
 step_shrinks s x e =

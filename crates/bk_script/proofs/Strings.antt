@@ -5,8 +5,8 @@ use Rattle.std.proofs.lemmas.Bool.Decides.{nat_tests}
 use Rattle.std.proofs.lemmas.List.{length-append, drop_more}
 use Rattle.std.specs.List.{list_all, concat}
 use Rattle.xt_spec.specs.Reference.{is_hexadecimal_digit, digit_value, number_behind, AreDigits}
-use Rattle.xt_lex.specs.Scan.{◌>>=◌, run, behind, after}
-use Rattle.xt_lex.proofs.Theorems.{bind_some, run_split, run_passes, after_takes}
+use Rattle.xt_lex.specs.Scan.{◌>>=◌, take_while, drop_while, after}
+use Rattle.xt_lex.proofs.Theorems.{bind_some, take_while_split, take_while_passes, after_takes}
 use Rattle.bk_script.specs.Word.{is_scalar, is_plain, IsCodePoint, IsEscape, IsStringPart, IsString}
 use Rattle.bk_script.specs.Reading.{Stops, ascii_at, scalar_of, code_point_at, escape_by, escape_at, string_part_at, parts_of, IsPushed, string_body_at, string_at}
 use Rattle.bk_script.specs.declared.stop.Stop.{Stop}
@@ -56,21 +56,21 @@ code_point_takes : (s : List ℕ) (x : ℕ × List ℕ) → code_point_at s ≡ 
 unfolding code_point_at
 code_point_takes s x e =
     let a = bind_some (after 123 s) _ x e in
-    let digits = run is_hexadecimal_digit a.0 in
+    let digits = take_while is_hexadecimal_digit a.0 in
     let b = bind_some (scalar_of digits) _ x a.2 in
-    let d = bind_some (after 125 (behind is_hexadecimal_digit a.0)) _ x b.2 in
+    let d = bind_some (after 125 (drop_while is_hexadecimal_digit a.0)) _ x b.2 in
     let ends = pair_parts b.0 x.0 d.0 x.1 d.2 in
     let is = scalar_takes digits b.0 b.1 in
     let point : IsCodePoint (117 ∷ 123 ∷ (digits ++ 125 ∷ [])) b.0 = record {
       digits = digits;
-      spelled = record { some = some_from_length digits is.some; all = run_passes is_hexadecimal_digit a.0; spell = is.spell };
+      spelled = record { some = some_from_length digits is.some; all = take_while_passes is_hexadecimal_digit a.0; spell = is.spell };
       short = is.short;
       scalar = is.scalar;
       whole = refl;
     } in (
       123 ∷ (digits ++ 125 ∷ []),
       subst (λ (k : ℕ). IsCodePoint (117 ∷ 123 ∷ (digits ++ 125 ∷ [])) k) ends.0 point,
-      after_takes 123 s a.0 a.1 ∙ ap (λ (t : List ℕ). 123 ∷ t) (run_split is_hexadecimal_digit a.0 ∙ ap (λ (t : List ℕ). digits ++ t) (after_takes 125 (behind is_hexadecimal_digit a.0) d.0 d.1 ∙ ap (λ (t : List ℕ). 125 ∷ t) ends.1) ∙ sym (append_assoc digits (125 ∷ []) x.1)),
+      after_takes 123 s a.0 a.1 ∙ ap (λ (t : List ℕ). 123 ∷ t) (take_while_split is_hexadecimal_digit a.0 ∙ ap (λ (t : List ℕ). digits ++ t) (after_takes 125 (drop_while is_hexadecimal_digit a.0) d.0 d.1 ∙ ap (λ (t : List ℕ). 125 ∷ t) ends.1) ∙ sym (append_assoc digits (125 ∷ []) x.1)),
     )
 
 code_point_again : (digits r : List ℕ) (c : ℕ) → AreDigits 16 is_hexadecimal_digit digits c → length digits ≤ 6 → is_scalar c ≡ true → code_point_at (123 ∷ (digits ++ 125 ∷ r)) ≡ Some (c, r)
@@ -257,8 +257,8 @@ body_plain (b ∷ bs) rest all =
     ∙ ap (with_value (b ∷ [])) (body_plain bs rest both.1)
     ∙ sym (with_both (b ∷ []) bs (string_body_at rest))
 
-pub body_front : (s : List ℕ) → with_value (run is_plain s) (string_body_at (behind is_plain s)) ≡ string_body_at s
-body_front s = sym (body_plain (run is_plain s) (behind is_plain s) (run_passes is_plain s)) ∙ ap string_body_at (sym (run_split is_plain s))
+pub body_front : (s : List ℕ) → with_value (take_while is_plain s) (string_body_at (drop_while is_plain s)) ≡ string_body_at s
+body_front s = sym (body_plain (take_while is_plain s) (drop_while is_plain s) (take_while_passes is_plain s)) ∙ ap string_body_at (sym (take_while_split is_plain s))
 
 escaped_body : (text c_rest : List ℕ) (c : ℕ) → escape_at text ≡ Some (c, c_rest) → string_body_at (92 ∷ text) ≡ with_value (encode_utf8 c) (string_body_at c_rest)
 escaped_body text r c e = body_step (92 ∷ text) (encode_utf8 c) r (escaped_part c text r e)
@@ -266,8 +266,8 @@ escaped_body text r c e = body_step (92 ∷ text) (encode_utf8 c) r (escaped_par
 -- one more escape, and what stands for itself behind it
 pub body_pushed : (value rest text now after_it : List ℕ) (whole : Option (List ℕ × List ℕ)) → rest ≡ 92 ∷ text → IsPushed value text now after_it → with_value value (string_body_at rest) ≡ whole → with_value now (string_body_at after_it) ≡ whole
 body_pushed value rest text now after_it whole is p so_far =
-    let front = run is_plain p.behind_escape in
-    let back = string_body_at (behind is_plain p.behind_escape) in
+    let front = take_while is_plain p.behind_escape in
+    let back = string_body_at (drop_while is_plain p.behind_escape) in
     let one : string_body_at rest ≡ with_value (encode_utf8 p.c) (string_body_at p.behind_escape) = ap string_body_at is ∙ escaped_body text p.behind_escape p.c p.escape in
     let two : string_body_at p.behind_escape ≡ with_value front back = sym (body_front p.behind_escape) in
     ap (λ (v : List ℕ). with_value v (string_body_at after_it)) p.value
@@ -284,7 +284,7 @@ pushed_stops value text now after_it p = subst (StopsAt is_plain) (sym p.rest_is
 pub pushed_less : (value rest text now after_it : List ℕ) → rest ≡ 92 ∷ text → IsPushed value text now after_it → length after_it < length rest
 pushed_less value rest text now after_it is p =
     let t = escape_takes text (p.c, p.behind_escape) p.escape in
-    omega (arith, ap length is, ap length t.2, length-append t.0 p.behind_escape, ap length p.rest_is, ap length (run_split is_plain p.behind_escape), length-append (run is_plain p.behind_escape) (behind is_plain p.behind_escape))
+    omega (arith, ap length is, ap length t.2, length-append t.0 p.behind_escape, ap length p.rest_is, ap length (take_while_split is_plain p.behind_escape), length-append (take_while is_plain p.behind_escape) (drop_while is_plain p.behind_escape))
 
 -- the second quote
 pub body_ends : (value rest r : List ℕ) (whole : Option (List ℕ × List ℕ)) → after 34 rest ≡ Some r → with_value value (string_body_at rest) ≡ whole → whole ≡ Some (value, r)
@@ -312,8 +312,8 @@ body_no_escape value rest text whole is none so_far =
     let body : string_body_at rest ≡ None = ap string_body_at is ∙ body_stop (92 ∷ text) no in
     sym so_far ∙ ap (with_value value) body
 
-pub body_split : (s value rest : List ℕ) → value ≡ run is_plain s → rest ≡ behind is_plain s → with_value value (string_body_at rest) ≡ string_body_at s
-body_split s value rest front back = ap (λ (v : List ℕ). with_value v (string_body_at rest)) front ∙ ap (λ (r : List ℕ). with_value (run is_plain s) (string_body_at r)) back ∙ body_front s
+pub body_split : (s value rest : List ℕ) → value ≡ take_while is_plain s → rest ≡ drop_while is_plain s → with_value value (string_body_at rest) ≡ string_body_at s
+body_split s value rest front back = ap (λ (v : List ℕ). with_value v (string_body_at rest)) front ∙ ap (λ (r : List ℕ). with_value (take_while is_plain s) (string_body_at r)) back ∙ body_front s
 
 -- why an escape was not appended
 pub body_stopped : (stop : Stop) (value rest text : List ℕ) (whole : Option (List ℕ × List ℕ)) → rest ≡ 92 ∷ text → (stop ≡ stops.NoReading → escape_at text ≡ None) → with_value value (string_body_at rest) ≡ whole → Stops stop whole

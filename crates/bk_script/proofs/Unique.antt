@@ -7,8 +7,8 @@ use Rattle.std.proofs.lemmas.List.{length-append, length-replicate}
 use Rattle.std.specs.List.{list_all}
 use Rattle.xt_spec.specs.Name.{IsQName}
 use Rattle.xt_lex.specs.NameTest.{is_name_byte}
-use Rattle.xt_lex.specs.Scan.{maybe, run, behind}
-use Rattle.xt_lex.proofs.Theorems.{qname_bytes, qname_nonempty, list_all_weaker, run_split}
+use Rattle.xt_lex.specs.Scan.{maybe, take_while, drop_while}
+use Rattle.xt_lex.proofs.Theorems.{qname_bytes, qname_nonempty, list_all_weaker, take_while_split}
 use Rattle.bk_script.specs.Word.{is_blank, IsBlank, IsNumber, Place, IsPlace, Side, side_first, side_last, side_before, side_after, side_text, IsString, IsWord, MayFollow, Word, letters, number, place, side, qname, string, file, AreWords}
 use Rattle.bk_script.specs.Command.{Command, edit_text, put, attr, drop_attr, insert, insert_at, delete, move, extract, inline, undo, redo, burst, tree, owner, words_of, IsCommandLine}
 use Rattle.bk_script.specs.Reading.{is_no_blank, number_of, step_at, parts_of, string_at}
@@ -23,10 +23,10 @@ use Rattle.bk_script.proofs.Words.{is_bare, IsSolid, no_blank_first, stop_of, nu
 
 raw_by : List ℕ → Option (List ℕ × List ℕ)
 raw_by [] = None
-raw_by (b ∷ bs) = cond (eqb b 34) (string_at (b ∷ bs)) (Some (run is_no_blank (b ∷ bs), behind is_no_blank (b ∷ bs)))
+raw_by (b ∷ bs) = cond (eqb b 34) (string_at (b ∷ bs)) (Some (take_while is_no_blank (b ∷ bs), drop_while is_no_blank (b ∷ bs)))
 
 raw_at : List ℕ → Option (List ℕ × List ℕ)
-raw_at text = raw_by (behind is_blank text)
+raw_at text = raw_by (drop_while is_blank text)
 
 by_shrinks : (s : List ℕ) (x : List ℕ × List ℕ) → StopsAt is_blank s → raw_by s ≡ Some x → length x.1 < length s
 unfolding raw_by
@@ -37,16 +37,16 @@ by_shrinks (b ∷ bs) x stops e =
           let t = string_takes (b ∷ bs) x h.1 in
           omega (arith, ap length t.2, length-append t.0 x.1, ap length t.1.3)
       | inr found ↦
-          let ends = pair_parts (run is_no_blank (b ∷ bs)) x.0 (behind is_no_blank (b ∷ bs)) x.1 found in
-          let first : behind is_no_blank (b ∷ bs) ≡ behind is_no_blank bs = rw stops refl in
-          omega (arith, ap length ends.1, ap length first, ap length (run_split is_no_blank bs), length-append (run is_no_blank bs) (behind is_no_blank bs))
+          let ends = pair_parts (take_while is_no_blank (b ∷ bs)) x.0 (drop_while is_no_blank (b ∷ bs)) x.1 found in
+          let first : drop_while is_no_blank (b ∷ bs) ≡ drop_while is_no_blank bs = rw stops refl in
+          omega (arith, ap length ends.1, ap length first, ap length (take_while_split is_no_blank bs), length-append (take_while is_no_blank bs) (drop_while is_no_blank bs))
     ]
 
 raw_shrinks : Shrinks raw_at
 unfolding raw_at
 raw_shrinks s x e =
-    let less = by_shrinks (behind is_blank s) x (behind_stops is_blank s) e in
-    omega (arith, less, ap length (run_split is_blank s), length-append (run is_blank s) (behind is_blank s))
+    let less = by_shrinks (drop_while is_blank s) x (behind_stops is_blank s) e in
+    omega (arith, less, ap length (take_while_split is_blank s), length-append (take_while is_blank s) (drop_while is_blank s))
 
 no_quote : (t r : List ℕ) → IsSolid t → StopsAt is_no_blank r → raw_by (t ++ r) ≡ Some (t, r)
 unfolding raw_by
@@ -56,8 +56,8 @@ no_quote (b ∷ bs) r solid stops =
     let other : eqb b 34 ≡ false = grind (arith, nat_tests) in
     let front = run_whole is_no_blank (b ∷ bs) r (solid_no_blank (b ∷ bs) solid) stops in
     let back = behind_whole is_no_blank (b ∷ bs) r (solid_no_blank (b ∷ bs) solid) stops in
-    let made : ◌≡◌ {A = Option (List ℕ × List ℕ)} (Some (run is_no_blank ((b ∷ bs) ++ r), behind is_no_blank ((b ∷ bs) ++ r))) (Some (b ∷ bs, r)) = ap (λ (l : List ℕ). Some (l, behind is_no_blank ((b ∷ bs) ++ r))) front ∙ ap (λ (l : List ℕ). Some (b ∷ bs, l)) back in
-    ap (λ (v : Bool). cond v (string_at ((b ∷ bs) ++ r)) (Some (run is_no_blank ((b ∷ bs) ++ r), behind is_no_blank ((b ∷ bs) ++ r)))) other ∙ made
+    let made : ◌≡◌ {A = Option (List ℕ × List ℕ)} (Some (take_while is_no_blank ((b ∷ bs) ++ r), drop_while is_no_blank ((b ∷ bs) ++ r))) (Some (b ∷ bs, r)) = ap (λ (l : List ℕ). Some (l, drop_while is_no_blank ((b ∷ bs) ++ r))) front ∙ ap (λ (l : List ℕ). Some (b ∷ bs, l)) back in
+    ap (λ (v : Bool). cond v (string_at ((b ∷ bs) ++ r)) (Some (take_while is_no_blank ((b ∷ bs) ++ r), drop_while is_no_blank ((b ∷ bs) ++ r)))) other ∙ made
 
 bare_again : (before t r : List ℕ) → IsBlank before → IsSolid t → MayFollow r → raw_at (before ++ (t ++ r)) ≡ Some (t, r)
 unfolding raw_at
@@ -134,7 +134,7 @@ raws_of text = (parts_of raw_at text).0
 
 blank_end : (text : List ℕ) → IsBlank text → raw_at text ≡ None
 unfolding raw_at raw_by
-blank_end text blank = ap raw_by (ap (behind is_blank) (sym (append-nil text)) ∙ behind_whole is_blank text [] blank tt)
+blank_end text blank = ap raw_by (ap (drop_while is_blank) (sym (append-nil text)) ∙ behind_whole is_blank text [] blank tt)
 
 words_raw : (words : List Word) (text : List ℕ) → list_all is_good words ≡ true → AreWords text words → AreRaw (raws_of text) words
 words_raw [] text good blank = ap (λ (p : List (List ℕ) × List ℕ). p.0) (parts_stop raw_at text (blank_end text blank))

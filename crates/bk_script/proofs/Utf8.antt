@@ -5,8 +5,8 @@ use Rattle.std.proofs.lemmas.Str.{IsUtf8-drop}
 use Rattle.std.specs.List.{list_all, prefix_len}
 use Rattle.std.specs.Str.{IsUtf8}
 use Rattle.xt_spec.specs.Reference.{is_hexadecimal_digit}
-use Rattle.xt_lex.specs.Scan.{behind}
-use Rattle.xt_lex.proofs.Theorems.{behind_is, boundary_at_stop, hexadecimal_ascii, list_all_weaker, list_all_joined, utf8_behind}
+use Rattle.xt_lex.specs.Scan.{drop_while}
+use Rattle.xt_lex.proofs.Theorems.{drop_while_is, boundary_at_stop, hexadecimal_ascii, list_all_weaker, list_all_joined, utf8_behind}
 use Rattle.bk_script.specs.Word.{is_plain, IsEscape}
 use Rattle.bk_script.specs.Reading.{IsPushed}
 use Rattle.bk_script.proofs.Fronts.{no_plain_ascii}
@@ -33,8 +33,8 @@ escape_ascii t c (inr (inr (inr (inr (inl (e, f)))))) = rw e refl
 escape_ascii t c (inr (inr (inr (inr (inr is))))) =
     rw is.whole (list_all_joined is_ascii is.digits (125 ∷ []) (list_all_weaker is_hexadecimal_digit is_ascii digit_ascii is.digits is.spelled.all) refl)
 
-pub plain_behind : (s : List ℕ) → IsUtf8 s → IsUtf8 (behind is_plain s)
-plain_behind s utf8 = subst IsUtf8 (behind_is is_plain s) (IsUtf8-drop s (prefix_len is_plain s) utf8 (boundary_at_stop is_plain s no_plain_ascii))
+pub plain_behind : (s : List ℕ) → IsUtf8 s → IsUtf8 (drop_while is_plain s)
+plain_behind s utf8 = subst IsUtf8 (drop_while_is is_plain s) (IsUtf8-drop s (prefix_len is_plain s) utf8 (boundary_at_stop is_plain s no_plain_ascii))
 
 pub pushed_utf8 : (value rest text now after_it : List ℕ) → rest ≡ 92 ∷ text → IsPushed value text now after_it → IsUtf8 rest → IsUtf8 after_it
 pushed_utf8 value rest text now after_it is p utf8 =

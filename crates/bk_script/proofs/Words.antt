@@ -5,8 +5,8 @@ use Rattle.std.proofs.lemmas.Bool.Decides.{nat_tests}
 use Rattle.std.specs.List.{list_all}
 use Rattle.std.specs.Prelude.{◌==◌}
 use Rattle.xt_spec.specs.Reference.{is_decimal_digit}
-use Rattle.xt_lex.specs.Scan.{run, behind}
-use Rattle.xt_lex.proofs.Theorems.{list_all_weaker, list_all_joined, run_split, run_passes, bind_some}
+use Rattle.xt_lex.specs.Scan.{take_while, drop_while}
+use Rattle.xt_lex.proofs.Theorems.{list_all_weaker, list_all_joined, take_while_split, take_while_passes, bind_some}
 use Rattle.bk_script.specs.Word.{is_blank, IsBlank, IsNumber, IsStep, Place, IsPlace, IsString, AreSpelled, MayFollow, string, AreWords}
 use Rattle.bk_script.specs.Reading.{is_no_blank, word_at, string_at, last_string_at}
 use Rattle.bk_script.proofs.Fronts.{StopsAt, run_whole, behind_whole, behind_stops}
@@ -21,16 +21,16 @@ stop_of [] follow = tt
 stop_of (b ∷ bs) follow = rw follow refl
 
 pub record IsCut (text : List ℕ) : Type 0 where
-  pub blank : IsBlank (run is_blank text)
+  pub blank : IsBlank (take_while is_blank text)
   pub follow : MayFollow (word_at text).1
-  pub whole : text ≡ run is_blank text ++ ((word_at text).0 ++ (word_at text).1)
+  pub whole : text ≡ take_while is_blank text ++ ((word_at text).0 ++ (word_at text).1)
 
 pub cut : (text : List ℕ) → IsCut text
 unfolding word_at
 cut text = record {
-  blank = run_passes is_blank text;
-  follow = follow_of _ (behind_stops is_no_blank (behind is_blank text));
-  whole = run_split is_blank text ∙ ap (λ (t : List ℕ). run is_blank text ++ t) (run_split is_no_blank (behind is_blank text));
+  blank = take_while_passes is_blank text;
+  follow = follow_of _ (behind_stops is_no_blank (drop_while is_blank text));
+  whole = take_while_split is_blank text ∙ ap (λ (t : List ℕ). take_while is_blank text ++ t) (take_while_split is_no_blank (drop_while is_blank text));
 }
 
 -- a byte that is neither a space nor a quote
@@ -90,7 +90,7 @@ place_solid t p is = record {
   all = rw is.3 (list_all_joined is_bare is.0 (replicate p.carets 94) (steps_solid p.numbers is.0 is.1) (carets_solid p.carets));
 }
 
-pub string_first : (before t rest v : List ℕ) → IsBlank before → IsString t v → behind is_blank (before ++ (t ++ rest)) ≡ t ++ rest
+pub string_first : (before t rest v : List ℕ) → IsBlank before → IsString t v → drop_while is_blank (before ++ (t ++ rest)) ≡ t ++ rest
 string_first before t rest v blank (body, parts, are, e, f) =
     behind_whole is_blank before (t ++ rest) blank (subst (λ (u : List ℕ). StopsAt is_blank (u ++ rest)) (sym e) refl)
 
@@ -101,13 +101,13 @@ blank_follows (b ∷ bs) blank = eqb-true b 32 (and_parts _ _ blank).0
 pub last_string_takes : (text v : List ℕ) → last_string_at text ≡ Some v → AreWords text (string v ∷ [])
 unfolding last_string_at
 last_string_takes text v e =
-    let a = bind_some (string_at (behind is_blank text)) _ v e in
-    let t = string_takes (behind is_blank text) a.0 a.1 in
+    let a = bind_some (string_at (drop_while is_blank text)) _ v e in
+    let t = string_takes (drop_while is_blank text) a.0 a.1 in
     elim (choose (list_all is_blank a.0.1) _ _ v a.2) [
       | inl h ↦
           let some : Some a.0.0 ≡ Some v = h.1 in
           let same : a.0.0 ≡ v = cc in
-          (run is_blank text, t.0, a.0.1, run_passes is_blank text, subst (λ (w : List ℕ). IsString t.0 w) same t.1, blank_follows a.0.1 h.0, h.0, run_split is_blank text ∙ ap (λ (l : List ℕ). run is_blank text ++ l) t.2)
+          (take_while is_blank text, t.0, a.0.1, take_while_passes is_blank text, subst (λ (w : List ℕ). IsString t.0 w) same t.1, blank_follows a.0.1 h.0, h.0, take_while_split is_blank text ∙ ap (λ (l : List ℕ). take_while is_blank text ++ l) t.2)
       | inr none ↦ absurd cc
     ]
 

@@ -11,7 +11,7 @@ use Rattle.std.specs.List.{list_all, concat}
 use Rattle.std.specs.Str.{is_utf8}
 use Rattle.xt_spec.specs.Limit.{most_commands, most_script_bytes}
 use Rattle.xt_spec.specs.Reference.{is_decimal_digit, is_hexadecimal_digit, digit_value, number_behind}
-use Rattle.xt_lex.specs.Scan.{◌>>=◌, maybe, run, behind, after}
+use Rattle.xt_lex.specs.Scan.{◌>>=◌, maybe, take_while, drop_while, after}
 use Rattle.bk_script.specs.Word.{is_blank, is_plain, is_scalar}
 use Rattle.bk_script.specs.Command.{Command, edit_text, burst}
 use Rattle.bk_script.specs.Script.{is_no_lf, ends_in_cr}
@@ -46,7 +46,7 @@ is_no_blank b = not (b == 0x20)
 
 -- behind optional spaces: what stands before the next space, and the rest
 unfoldable pub word_at : List ℕ → List ℕ × List ℕ
-word_at text = (run is_no_blank (behind is_blank text), behind is_no_blank (behind is_blank text))
+word_at text = (take_while is_no_blank (drop_while is_blank text), drop_while is_no_blank (drop_while is_blank text))
 
 -- the number of one more digit behind a number, where it is at most 4294967295
 abbrev pub number_with : ℕ → ℕ → Option ℕ
@@ -68,7 +68,7 @@ not_zero n = if n == 0 then None else Some n
 
 -- a slash and an N that isn't 0, and what follows
 unfoldable pub step_at : List ℕ → Option (ℕ × List ℕ)
-step_at text = after 0x2F text >>= λ s. number_of (run is_decimal_digit s) >>= λ n. not_zero n >>= λ m. Some (m, behind is_decimal_digit s)
+step_at text = after 0x2F text >>= λ s. number_of (take_while is_decimal_digit s) >>= λ n. not_zero n >>= λ m. Some (m, drop_while is_decimal_digit s)
 
 abbrev pub all_read : List ℕ × List ℕ → Option (List ℕ)
 all_read ([], rest) = None
@@ -91,7 +91,7 @@ scalar_of digits =
 
 -- `{H}`, and what follows
 unfoldable pub code_point_at : List ℕ → Option (ℕ × List ℕ)
-code_point_at text = after 0x7B text >>= λ s. scalar_of (run is_hexadecimal_digit s) >>= λ c. after 0x7D (behind is_hexadecimal_digit s) >>= λ r. Some (c, r)
+code_point_at text = after 0x7B text >>= λ s. scalar_of (take_while is_hexadecimal_digit s) >>= λ c. after 0x7D (drop_while is_hexadecimal_digit s) >>= λ r. Some (c, r)
 
 -- what the letter behind a backslash stands for, and what follows
 abbrev pub escape_by : ℕ → List ℕ → Option (ℕ × List ℕ)
@@ -118,8 +118,8 @@ pub record IsPushed (before text now rest : List ℕ) : Type 0 where
   pub c : ℕ
   pub behind_escape : List ℕ
   pub escape : escape_at text ≡ Some (c, behind_escape)
-  pub value : now ≡ (before ++ encode_utf8 c) ++ run is_plain behind_escape
-  pub rest_is : rest ≡ behind is_plain behind_escape
+  pub value : now ≡ (before ++ encode_utf8 c) ++ take_while is_plain behind_escape
+  pub rest_is : rest ≡ drop_while is_plain behind_escape
 
 -- behind the first quote: the value of the string, and what follows its second quote
 unfoldable pub string_body_at : List ℕ → Option (List ℕ × List ℕ)
@@ -130,7 +130,7 @@ string_at text = after 0x22 text >>= λ s. string_body_at s
 
 -- the value of the string that the whole text is, but for spaces round it
 unfoldable pub last_string_at : List ℕ → Option (List ℕ)
-last_string_at text = string_at (behind is_blank text) >>= λ value. if list_all is_blank value.1 then Some value.0 else None
+last_string_at text = string_at (drop_while is_blank text) >>= λ value. if list_all is_blank value.1 then Some value.0 else None
 
 -- behind `text`: PLACE N N STRING
 unfoldable pub text_at : List ℕ → Option Command
@@ -160,7 +160,7 @@ option_some (Some command) = Some (Some command)
 -- what a line counts, where it has a reading
 unfoldable pub line_of : List ℕ → Option (Option Command)
 line_of line =
-    if is_utf8 line then (if is_passed_over (behind is_blank line) then Some None else option_some (command_at line)) else None
+    if is_utf8 line then (if is_passed_over (drop_while is_blank line) then Some None else option_some (command_at line)) else None
 
 -- without one CR at the end
 abbrev pub without_cr : List ℕ → List ℕ
@@ -168,7 +168,7 @@ without_cr bytes = if ends_in_cr bytes then take (length bytes - 1) bytes else b
 
 -- the line that an LF ends, and what follows
 abbrev pub ended_line_at : List ℕ → Option (List ℕ × List ℕ)
-ended_line_at bytes = after 0xA (behind is_no_lf bytes) >>= λ rest. Some (without_cr (run is_no_lf bytes), rest)
+ended_line_at bytes = after 0xA (drop_while is_no_lf bytes) >>= λ rest. Some (without_cr (take_while is_no_lf bytes), rest)
 
 unfoldable pub lines_of : List ℕ → List (List ℕ)
 lines_of bytes = (parts_of ended_line_at bytes).0 ++ (parts_of ended_line_at bytes).1 ∷ []

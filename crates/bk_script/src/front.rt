@@ -5,7 +5,7 @@ ghost use Rattle.std.specs.List.{prefix_len};
 ghost use Rattle.std.specs.Option.{option_copied};
 ghost use Rattle.xt_spec.specs.Reference as spec;
 ghost use Rattle.xt_spec.specs.Reference.{is_hexadecimal_digit};
-ghost use Rattle.xt_lex.specs.Scan.{run, behind, after};
+ghost use Rattle.xt_lex.specs.Scan.{take_while, drop_while, after};
 ghost use Rattle.bk_script.specs.Word as words;
 ghost use Rattle.bk_script.specs.Word.{is_blank, is_plain};
 ghost use Rattle.bk_script.specs.Reading.{is_no_blank, word_at, ascii_at};
@@ -59,14 +59,14 @@ fn hexadecimal_len(bytes: &[u8]) -> usize
 
 /// What follows optional spaces.
 pub(crate) fn after_blanks(text: &str) -> &str
-    ensures { result.now ≡ behind is_blank text.now }
+    ensures { result.now ≡ drop_while is_blank text.now }
 {
     &text[blank_len(text.as_bytes())..]
 }
 
 fn split_word(text: &str) -> (&str, &str)
-    ensures word { result.0.now ≡ run is_no_blank text.now }
-    ensures rest { result.1.now ≡ behind is_no_blank text.now }
+    ensures word { result.0.now ≡ take_while is_no_blank text.now }
+    ensures rest { result.1.now ≡ drop_while is_no_blank text.now }
 {
     text.split_at(no_blank_len(text.as_bytes()))
 }
@@ -83,16 +83,16 @@ pub(crate) fn next_word(text: &str) -> (&[u8], &str)
 
 /// The front that stands for itself in a string, and what follows it.
 pub(crate) fn split_plain(text: &str) -> (&str, &str)
-    ensures plain { result.0.now ≡ run is_plain text.now }
-    ensures rest { result.1.now ≡ behind is_plain text.now }
+    ensures plain { result.0.now ≡ take_while is_plain text.now }
+    ensures rest { result.1.now ≡ drop_while is_plain text.now }
 {
     text.split_at(plain_len(text.as_bytes()))
 }
 
 /// The hexadecimal digits at the front, and what follows them.
 pub(crate) fn split_hexadecimal(text: &str) -> (&str, &str)
-    ensures digits { result.0.now ≡ run is_hexadecimal_digit text.now }
-    ensures rest { result.1.now ≡ behind is_hexadecimal_digit text.now }
+    ensures digits { result.0.now ≡ take_while is_hexadecimal_digit text.now }
+    ensures rest { result.1.now ≡ drop_while is_hexadecimal_digit text.now }
 {
     text.split_at(hexadecimal_len(text.as_bytes()))
 }

@@ -3,7 +3,7 @@
 ghost use Rattle.std.specs.Prelude.{◌≡◌, Some, option_map};
 ghost use Rattle.std.specs.Option.{option_copied};
 ghost use Rattle.xt_spec.specs.Reference.{is_decimal_digit};
-ghost use Rattle.xt_lex.specs.Scan.{run, behind, after};
+ghost use Rattle.xt_lex.specs.Scan.{take_while, drop_while, after};
 ghost use Rattle.bk_script.specs.Reading.{Gives, step_at, parts_of, place_of};
 ghost use Rattle.bk_script.specs.Word.{ArePlaceNumbers};
 
@@ -31,8 +31,8 @@ impl Model for Place {
 
 /// The digits at the front, and what follows them.
 fn split_digits(bytes: &[u8]) -> (&[u8], &[u8])
-    ensures digits { result.0.now ≡ run is_decimal_digit bytes.now }
-    ensures rest { result.1.now ≡ behind is_decimal_digit bytes.now }
+    ensures digits { result.0.now ≡ take_while is_decimal_digit bytes.now }
+    ensures rest { result.1.now ≡ drop_while is_decimal_digit bytes.now }
 {
     bytes.split_at(decimal_len(bytes))
 }

@@ -15,7 +15,7 @@ use Rattle.xt_spec.specs.Markup.{IsSectionOf}
 use Rattle.xt_spec.specs.Token.{TokenKind, char_data, char_ref, entity_ref, cdata_section, IsPlain, IsLongestFront}
 use Rattle.xt_spec.specs.Text.{TextPart, data_part, reference_part, section_part, part_text, parts_text, parts_value, begins_with_data, AreTextParts, IsTextItem, HasTextValue}
 use Rattle.xt_lex.specs.Place.{Follows}
-use Rattle.xt_lex.proofs.Theorems.{delimited_begins, front_some, token_longest, stands_unique, stands_spells}
+use Rattle.xt_lex.proofs.Theorems.{markup_begins, front_some, token_longest, stands_unique, stands_spells}
 
 -- ---- line ends, over characters
 
@@ -156,8 +156,8 @@ MayBe (section_part text content) kind = kind ≡ cdata_section
 
 reference_follows : (text rest : List ℕ) (c : ℕ) → StandsFor text c → Follows (text ++ rest)
 reference_follows text rest c stands = elim (stands_spells text c stands) [
-  | inl spells ↦ let first = delimited_begins char_ref text spells (inr (inl refl)) in begins first.0 first.1 first.2 first.3
-  | inr spells ↦ let first = delimited_begins entity_ref text spells (inr (inr refl)) in begins first.0 first.1 first.2 first.3
+  | inl spells ↦ let first = markup_begins char_ref text spells (inr (inl refl)) in begins first.0 first.1 first.2 first.3
+  | inr spells ↦ let first = markup_begins entity_ref text spells (inr (inr refl)) in begins first.0 first.1 first.2 first.3
 ]
   where
     begins : (b : ℕ) (more : List ℕ) → text ≡ b ∷ more → (b ≡ 0x3C) ⊎ (b ≡ 0x26) → Follows (text ++ rest)

@@ -17,7 +17,7 @@ use Rattle.xt_scan.proofs.Theorems.{sees_apart, sees_anything, sees_nothing, who
 use Rattle.xt_lex.specs.DeclaredValues.{values_of}
 use Rattle.xt_lex.specs.declared.declaration.Declaration.{Declaration as Values}
 use Rattle.xt_lex.specs.NameTest.{is_name_byte, name_class}
-use Rattle.xt_lex.specs.Scan.{run, behind}
+use Rattle.xt_lex.specs.Scan.{take_while, drop_while}
 use Rattle.xt_lex.specs.XmlDecl.{equals, word_value, version, encoding, standalone, has_form, declaration_of, declared_values, xml_decl}
 use Rattle.xt_lex.proofs.StepLemmas.{space_no_name}
 
@@ -218,7 +218,7 @@ stops d v r spells (inr p) =
     stops_at is_name_byte (v ++ r) (λ b bs e. no_name b bs (subst (λ s. sees (solid_in name_class) s ≡ false) e out))
 
 -- the target of a declaration is `xml`
-pub values_target : (d : Declaration) (v r : List ℕ) → declared_values.Spells d v → (run is_name_byte (codes "xml" ++ (v ++ r)) ≡ codes "xml") × (behind is_name_byte (codes "xml" ++ (v ++ r)) ≡ v ++ r)
+pub values_target : (d : Declaration) (v r : List ℕ) → declared_values.Spells d v → (take_while is_name_byte (codes "xml" ++ (v ++ r)) ≡ codes "xml") × (drop_while is_name_byte (codes "xml" ++ (v ++ r)) ≡ v ++ r)
 values_target d v r spells =
     let none = stops d v r spells (lawful_values.leads d v spells) in
     (ap (λ t. codes "xml" ++ t) none.0, none.1)

@@ -11,13 +11,13 @@ use Rattle.xt_spec.specs.Declaration.{IsQuoted}
 use Rattle.xt_spec.specs.Doctype.{is_pubid_char, IsSystemLiteral, IsPubidLiteral, IsExternalId, subset_text, IsOptionalExternalId, IsOptionalSubset, IsDoctype}
 use Rattle.xt_spec.specs.Token.{TokenKind, doctype}
 use Rattle.xt_lex.specs.NameTest.{is_name_byte}
-use Rattle.xt_lex.specs.Scan.{◌>>=◌, maybe, run, behind, after, after_all, after_space, after_qname, quoted, are_chars, many, after_system_literal, after_pubid_literal, after_system, after_public, after_external_id, spaced_external_id, after_external, after_subset_part, after_subset, after_brackets, doctype_step}
+use Rattle.xt_lex.specs.Scan.{◌>>=◌, maybe, take_while, drop_while, after, after_all, after_space, after_qname, quoted, are_chars, many, after_system_literal, after_pubid_literal, after_system, after_public, after_external_id, spaced_external_id, after_external, after_subset_part, after_subset, after_brackets, doctype_step}
 use Rattle.xt_lex.proofs.Attributes.{space_takes, space_again, name_solid, utf8_rest}
 use Rattle.xt_lex.proofs.Cuts.{after_all_takes, chars_utf8, chars_from_test, test_from_chars, front_utf8}
 use Rattle.xt_lex.proofs.Quotes.{quoted_takes, quoted_again, quoted_solid, quoted_utf8}
 use Rattle.xt_lex.proofs.References.{pair_parts}
 use Rattle.xt_lex.proofs.Spelling.{list_all_weaker}
-use Rattle.xt_lex.proofs.StepLemmas.{bind_some, run_split, run_passes, behind_append, after_takes, after_qname_takes, after_qname_again, space_no_name, stops_name, utf8_behind}
+use Rattle.xt_lex.proofs.StepLemmas.{bind_some, take_while_split, take_while_passes, drop_while_append, after_takes, after_qname_takes, after_qname_again, space_no_name, stops_name, utf8_behind}
 use Rattle.xt_lex.proofs.Subsets.{subset_takes, subset_again}
 use Rattle.xt_lex.proofs.Utf8.{ascii, blank_utf8, qname_utf8}
 
@@ -140,7 +140,7 @@ unfolding after_external_id
 external_again t r (inl (sp, system, space, is, e)) = ap (λ t. after_external_id (t ++ r)) e ∙ ap after_external_id (sym (system_whole sp system r)) ∙ system_again sp system r space is
 external_again t r (inr (sp, p, gap, system, space, is, gap_, is_t, e)) = ap (λ t. after_external_id (t ++ r)) e ∙ ap after_external_id (sym (public_whole sp p gap system r)) ∙ public_again sp p gap system r space is gap_ is_t
 
-external_solid : (t r : List ℕ) → IsExternalId t → behind is_space (t ++ r) ≡ t ++ r
+external_solid : (t r : List ℕ) → IsExternalId t → drop_while is_space (t ++ r) ≡ t ++ r
 external_solid t r (inl (sp, system, space, is, e)) = rw e refl
 external_solid t r (inr (sp, p, gap, system, space, is, gap_, is_t, e)) = rw e refl
 
@@ -187,11 +187,11 @@ brackets_by s r (Some s1) u e h =
     let parts = subset_takes s1 in
     let close = bind_some (after 93 (many after_subset_part s1)) _ _ h in
     let end = after_takes 93 (many after_subset_part s1) close.0 close.1 in
-    let same : behind is_space close.0 ≡ r = cc (close.2) in
+    let same : drop_while is_space close.0 ≡ r = cc (close.2) in
     let subset = subset_text parts.0 in
-    let blank = run is_space close.0 in
+    let blank = take_while is_space close.0 in
     let text = front_utf8 subset 93 close.0 (omega arith) (subst IsUtf8 (parts.2 ∙ ap (λ t. subset ++ t) end) u1) in
-    (codes "[" ++ subset ++ codes "]" ++ blank, inr (subset, blank, (parts.0, parts.1, text, refl), run_passes is_space close.0, refl), brackets_joined s s1 (many after_subset_part s1) close.0 r subset blank is parts.2 end (run_split is_space close.0 ∙ ap (λ t. blank ++ t) same))
+    (codes "[" ++ subset ++ codes "]" ++ blank, inr (subset, blank, (parts.0, parts.1, text, refl), take_while_passes is_space close.0, refl), brackets_joined s s1 (many after_subset_part s1) close.0 r subset blank is parts.2 end (take_while_split is_space close.0 ∙ ap (λ t. blank ++ t) same))
 
 brackets_takes : (s r : List ℕ) → IsUtf8 s → after_brackets s ≡ Some r → (t : List ℕ) × IsOptionalSubset t × (s ≡ t ++ r)
 unfolding after_brackets
@@ -206,7 +206,7 @@ brackets_again t r (inl e) = rw e refl
 brackets_again t r (inr (subset, blank, (parts, are, u, is), b, e)) =
     let tail = blank ++ (62 ∷ r) in
     let found : many after_subset_part (subset ++ (93 ∷ tail)) ≡ 93 ∷ tail = ap (λ s. many after_subset_part (s ++ (93 ∷ tail))) is ∙ subset_again parts tail are in
-    let last : behind is_space tail ≡ 62 ∷ r = behind_append is_space blank (62 ∷ r) b in
+    let last : drop_while is_space tail ≡ 62 ∷ r = drop_while_append is_space blank (62 ∷ r) b in
     rw (brackets_split t subset blank r e) (rw found (ap (λ t. Some t) last))
 
 brackets_utf8 : (t : List ℕ) → IsOptionalSubset t → IsUtf8 t
@@ -221,7 +221,7 @@ brackets_begin : (t r : List ℕ) → IsOptionalSubset t → BeginsClose (t ++ (
 brackets_begin t r (inl e) = (62, r, ap (λ t. t ++ (62 ∷ r)) e, inl refl)
 brackets_begin t r (inr (subset, blank, is, b, e)) = (91, _, brackets_split t subset blank r e, inr refl)
 
-close_solid : (s : List ℕ) → BeginsClose s → (behind is_space s ≡ s) × (run is_name_byte s ≡ []) × (behind is_name_byte s ≡ s) × (after_space s ≡ None) × (after_external_id s ≡ None)
+close_solid : (s : List ℕ) → BeginsClose s → (drop_while is_space s ≡ s) × (take_while is_name_byte s ≡ []) × (drop_while is_name_byte s ≡ s) × (after_space s ≡ None) × (after_external_id s ≡ None)
 unfolding after_external_id
 close_solid s (b, x, e, inl is) = rw (e, is) (refl, refl, refl, refl, refl)
 close_solid s (b, x, e, inr is) = rw (e, is) (refl, refl, refl, refl, refl)
@@ -234,7 +234,7 @@ no_external (c ∷ cs) s b close =
     let none = facts.4 in
     rw one none
 
-no_name : (t blank s : List ℕ) → IsOptionalExternalId t → IsBlank blank → BeginsClose s → (run is_name_byte (t ++ (blank ++ s)) ≡ []) × (behind is_name_byte (t ++ (blank ++ s)) ≡ t ++ (blank ++ s))
+no_name : (t blank s : List ℕ) → IsOptionalExternalId t → IsBlank blank → BeginsClose s → (take_while is_name_byte (t ++ (blank ++ s)) ≡ []) × (drop_while is_name_byte (t ++ (blank ++ s)) ≡ t ++ (blank ++ s))
 no_name t blank s (inl e) b close = let facts = close_solid s close in rw e (stops_name blank s b facts.1 facts.2)
 no_name t blank s (inr ([], id, space, is, e)) b close = absurd (space.1 refl)
 no_name t blank s (inr (c ∷ cs, id, space, is, e)) b close =
@@ -251,20 +251,20 @@ unfolding doctype_step
 doctype_takes s r k u h =
     let n = bind_some (after_space s) _ _ h in
     let e = bind_some (after_qname n.0) _ _ n.2 in
-    let b = behind is_space (after_external e.0) in
+    let b = drop_while is_space (after_external e.0) in
     let c = bind_some (after_brackets b) _ _ e.2 in
     let close = bind_some (after 62 c.0) _ _ c.2 in
     let same = pair_parts doctype k close.0 r close.2 in
     let sp = space_takes s n.0 n.1 in
     let u1 = utf8_rest s sp.0 n.0 u (blank_utf8 sp.0 sp.1.0) sp.2 in
     let name = after_qname_takes n.0 e.0 u1 e.1 in
-    let front = run is_name_byte n.0 in
+    let front = take_while is_name_byte n.0 in
     let u2 = utf8_rest n.0 front e.0 u1 (qname_utf8 front name.0) name.1 in
     let ext = optional_takes e.0 u2 in
     let u3 = utf8_rest e.0 ext.0 (after_external e.0) u2 (optional_utf8 ext.0 ext.1) ext.2 in
-    let blank = run is_space (after_external e.0) in
-    let cut = run_split is_space (after_external e.0) in
-    let b_is = run_passes is_space (after_external e.0) in
+    let blank = take_while is_space (after_external e.0) in
+    let cut = take_while_split is_space (after_external e.0) in
+    let b_is = take_while_passes is_space (after_external e.0) in
     let u4 = utf8_rest (after_external e.0) blank b u3 (blank_utf8 blank b_is) cut in
     let br = brackets_takes b c.0 u4 c.1 in
     let text = codes "<!DOCTYPE" ++ sp.0 ++ front ++ ext.0 ++ blank ++ br.0 ++ codes ">" in (
@@ -289,7 +289,7 @@ doctype_takes s r k u h =
 pub doctype_split : (t r space name external blank brackets : List ℕ) → t ≡ codes "<!DOCTYPE" ++ space ++ name ++ external ++ blank ++ brackets ++ codes ">" → t ++ r ≡ codes "<!DOCTYPE" ++ (space ++ (name ++ (external ++ (blank ++ (brackets ++ (62 ∷ r))))))
 doctype_split t r space name external blank brackets e = rw e (simp append_assoc)
 
-doctype_by : (s n e x b c r : List ℕ) → after_space s ≡ Some n → after_qname n ≡ Some e → after_external e ≡ x → behind is_space x ≡ b → after_brackets b ≡ Some c → after 62 c ≡ Some r → doctype_step s ≡ Some (doctype, r)
+doctype_by : (s n e x b c r : List ℕ) → after_space s ≡ Some n → after_qname n ≡ Some e → after_external e ≡ x → drop_while is_space x ≡ b → after_brackets b ≡ Some c → after 62 c ≡ Some r → doctype_step s ≡ Some (doctype, r)
 unfolding doctype_step
 doctype_by s n e x b c r p q t u v w = rw p (rw q (rw (t, u) (rw v (rw w refl))))
 
@@ -305,7 +305,7 @@ doctype_again t r is =
     (space_again is.space (is.name ++ e) is.is_space (name_solid is.name e is.is_name))
     (after_qname_again is.name e is.is_name ends.0 ends.1)
     (optional_again is.external x is.is_external (no_external is.blank b is.is_blank close))
-    (behind_append is_space is.blank b is.is_blank ∙ (close_solid b close).0)
+    (drop_while_append is_space is.blank b is.is_blank ∙ (close_solid b close).0)
     (brackets_again is.brackets r is.is_brackets)
     refl
 

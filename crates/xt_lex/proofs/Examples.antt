@@ -10,7 +10,7 @@ use Rattle.xt_spec.specs.Token.{char_data, end_tag, IsFront, IsLongestFront}
 use Rattle.xt_lex.specs.Fast.{is_plain_name}
 use Rattle.xt_lex.specs.NameTest.{is_name_byte}
 use Rattle.xt_lex.specs.Place.{Follows, EndsName, EndsTag, AreSpansOf}
-use Rattle.xt_lex.specs.Scan.{run, behind}
+use Rattle.xt_lex.specs.Scan.{take_while, drop_while}
 use Rattle.xt_lex.proofs.Utf8.{ascii}
 use Rattle.xt_lex.proofs.Spelling.{spelt_ascii}
 use Rattle.xt_lex.proofs.Spelled.{plain_is_ncname, space_spells}
@@ -51,7 +51,7 @@ no_name_ends_a_tag (inl e) = absurd (omega arith)
 no_name_ends_a_tag (inr e) = absurd (omega arith)
 
 -- the name that the bytes of names make, and what follows it
-name_and_rest : (run is_name_byte (codes "a:b c") ≡ codes "a:b") × (behind is_name_byte (codes "a:b c") ≡ codes " c")
+name_and_rest : (take_while is_name_byte (codes "a:b c") ≡ codes "a:b") × (drop_while is_name_byte (codes "a:b c") ≡ codes " c")
 name_and_rest = (refl, refl)
 
 -- a plain name, one with a colon, and none

@@ -8,12 +8,12 @@ use Rattle.std.specs.Str.{IsUtf8, NonePass}
 use Rattle.xt_spec.specs.Char.{is_char}
 use Rattle.xt_spec.specs.Token.{TokenKind, start_tag, empty_tag, end_tag, char_data, char_ref, entity_ref, cdata_section, comment, pi, declaration, doctype, IsPlain, Spells, BeginsClose, HoldsNoClose, MayStand, IsFront, NoFront, IsLongestFront}
 use Rattle.xt_lex.specs.Data.{IsDelimiter, IsFirstData, is_no_char}
-use Rattle.xt_lex.specs.Scan.{angled, reference, delimited}
+use Rattle.xt_lex.specs.Scan.{angle_markup, reference, markup}
 use Rattle.xt_lex.proofs.DataLemmas.{drop_longer, close_reads}
 use Rattle.xt_lex.proofs.References.{IsFound, pair_parts, reference_takes, reference_again, found_inner}
 use Rattle.xt_lex.proofs.Spelling.{strip}
-use Rattle.xt_lex.proofs.Angled.{IsSpecial, IsAngled, angled_takes, angled_again, special_begins}
-use Rattle.xt_lex.proofs.Tags.{IsMarkup, no_markup, no_markup_ref, no_markup_other}
+use Rattle.xt_lex.proofs.AngleMarkup.{IsSpecial, IsAngleMarkup, angle_markup_takes, angle_markup_again, special_begins}
+use Rattle.xt_lex.proofs.Tags.{IsTagKind, no_tag, no_tag_ref, no_tag_other}
 
 -- the characters of character data
 plain_chars : (cs text : List ℕ) → encode_utf8_all cs ≡ text → NonePass is_no_char cs → ((i : ℕ) → i < length text → ¬ (IsDelimiter (get_or text i 0))) → AllByRecursion IsPlain cs
@@ -68,7 +68,7 @@ chars_begin s n f =
 abbrev pub IsRef : TokenKind → Type 0
 IsRef k = (k ≡ char_ref) ⊎ (k ≡ entity_ref)
 
-pub kinds : (k : TokenKind) → (k ≡ char_data) ⊎ (IsAngled k ⊎ IsRef k)
+pub kinds : (k : TokenKind) → (k ≡ char_data) ⊎ (IsAngleMarkup k ⊎ IsRef k)
 kinds start_tag = inr (inl (inl (inl refl)))
 kinds empty_tag = inr (inl (inl (inr (inl refl))))
 kinds end_tag = inr (inl (inl (inr (inr refl))))
@@ -82,14 +82,14 @@ kinds char_ref = inr (inr (inl refl))
 kinds entity_ref = inr (inr (inr refl))
 
 -- a token that ends at a delimiter of its own
-abbrev pub IsDelimited : TokenKind → Type 0
-IsDelimited k = IsAngled k ⊎ IsRef k
+abbrev pub IsMarkup : TokenKind → Type 0
+IsMarkup k = IsAngleMarkup k ⊎ IsRef k
 
 special_data : (k : TokenKind) → k ≡ char_data → IsSpecial k → ⊥
 special_data k e s = subst IsSpecial e s
 
-pub not_data : (k : TokenKind) → k ≡ char_data → IsDelimited k → ⊥
-not_data k e (inl (inl m)) = no_markup k e m
+pub not_data : (k : TokenKind) → k ≡ char_data → IsMarkup k → ⊥
+not_data k e (inl (inl m)) = no_tag k e m
 not_data k e (inl (inr s)) = special_data k e s
 not_data k e (inr (inl r)) = absurd (cc)
 not_data k e (inr (inr r)) = absurd (cc)
@@ -106,9 +106,9 @@ spells_found char_ref t h r = inl (refl, h)
 spells_found entity_ref t h r = inr (refl, h)
 spells_found char_data t h (inl e) = absurd (cc)
 spells_found char_data t h (inr e) = absurd (cc)
-spells_found start_tag t h r = absurd (no_markup_ref start_tag r (inl refl))
-spells_found empty_tag t h r = absurd (no_markup_ref empty_tag r (inr (inl refl)))
-spells_found end_tag t h r = absurd (no_markup_ref end_tag r (inr (inr refl)))
+spells_found start_tag t h r = absurd (no_tag_ref start_tag r (inl refl))
+spells_found empty_tag t h r = absurd (no_tag_ref empty_tag r (inr (inl refl)))
+spells_found end_tag t h r = absurd (no_tag_ref end_tag r (inr (inr refl)))
 spells_found cdata_section t h (inl e) = absurd (cc)
 spells_found cdata_section t h (inr e) = absurd (cc)
 spells_found comment t h (inl e) = absurd (cc)
@@ -121,45 +121,45 @@ spells_found doctype t h (inl e) = absurd (cc)
 spells_found doctype t h (inr e) = absurd (cc)
 
 -- a tag begins with `<`
-markup_begins : (k : TokenKind) (t : List ℕ) → Spells k t → IsMarkup k → (x : List ℕ) × (t ≡ 60 ∷ x)
-markup_begins start_tag t (tag, is, e) m = (_, e)
-markup_begins empty_tag t (tag, is, e) m = (_, e)
-markup_begins end_tag t (name, q, (blank, b, e)) m = (_, e)
-markup_begins char_data t s m = absurd (no_markup char_data refl m)
-markup_begins char_ref t s m = absurd (no_markup_ref char_ref (inl refl) m)
-markup_begins entity_ref t s m = absurd (no_markup_ref entity_ref (inr refl) m)
-markup_begins cdata_section t s m = absurd (no_markup_other cdata_section (λ e. cc) (λ e. cc) (λ e. cc) m)
-markup_begins comment t s m = absurd (no_markup_other comment (λ e. cc) (λ e. cc) (λ e. cc) m)
-markup_begins pi t s m = absurd (no_markup_other pi (λ e. cc) (λ e. cc) (λ e. cc) m)
-markup_begins declaration t s m = absurd (no_markup_other declaration (λ e. cc) (λ e. cc) (λ e. cc) m)
-markup_begins doctype t s m = absurd (no_markup_other doctype (λ e. cc) (λ e. cc) (λ e. cc) m)
+tag_begins : (k : TokenKind) (t : List ℕ) → Spells k t → IsTagKind k → (x : List ℕ) × (t ≡ 60 ∷ x)
+tag_begins start_tag t (tag, is, e) m = (_, e)
+tag_begins empty_tag t (tag, is, e) m = (_, e)
+tag_begins end_tag t (name, q, (blank, b, e)) m = (_, e)
+tag_begins char_data t s m = absurd (no_tag char_data refl m)
+tag_begins char_ref t s m = absurd (no_tag_ref char_ref (inl refl) m)
+tag_begins entity_ref t s m = absurd (no_tag_ref entity_ref (inr refl) m)
+tag_begins cdata_section t s m = absurd (no_tag_other cdata_section (λ e. cc) (λ e. cc) (λ e. cc) m)
+tag_begins comment t s m = absurd (no_tag_other comment (λ e. cc) (λ e. cc) (λ e. cc) m)
+tag_begins pi t s m = absurd (no_tag_other pi (λ e. cc) (λ e. cc) (λ e. cc) m)
+tag_begins declaration t s m = absurd (no_tag_other declaration (λ e. cc) (λ e. cc) (λ e. cc) m)
+tag_begins doctype t s m = absurd (no_tag_other doctype (λ e. cc) (λ e. cc) (λ e. cc) m)
 
 -- what begins with `<`
-angled_begins : (k : TokenKind) (t : List ℕ) → Spells k t → IsAngled k → (x : List ℕ) × (t ≡ 60 ∷ x)
-angled_begins k t h (inl m) = markup_begins k t h m
-angled_begins k t h (inr s) = special_begins k t h s
+angle_markup_begins : (k : TokenKind) (t : List ℕ) → Spells k t → IsAngleMarkup k → (x : List ℕ) × (t ≡ 60 ∷ x)
+angle_markup_begins k t h (inl m) = tag_begins k t h m
+angle_markup_begins k t h (inr s) = special_begins k t h s
 
-pub delimited_begins : (k : TokenKind) (t : List ℕ) → Spells k t → IsDelimited k → (b : ℕ) × (x : List ℕ) × (t ≡ b ∷ x) × IsDelimiter b
-delimited_begins k t s (inl m) = let first = angled_begins k t s m in (60, first.0, first.1, inl refl)
-delimited_begins k t s (inr r) = let inner = found_inner k t (spells_found k t s r) in (38, inner.0, inner.1, inr refl)
+pub markup_begins : (k : TokenKind) (t : List ℕ) → Spells k t → IsMarkup k → (b : ℕ) × (x : List ℕ) × (t ≡ b ∷ x) × IsDelimiter b
+markup_begins k t s (inl m) = let first = angle_markup_begins k t s m in (60, first.0, first.1, inl refl)
+markup_begins k t s (inr r) = let inner = found_inner k t (spells_found k t s r) in (38, inner.0, inner.1, inr refl)
 
-pub delimited_again : (t r : List ℕ) (k : TokenKind) → Spells k t → IsDelimited k → delimited (t ++ r) ≡ Some (k, r)
-delimited_again t r k s (inl m) =
-    let first = angled_begins k t s m in
+pub markup_again : (t r : List ℕ) (k : TokenKind) → Spells k t → IsMarkup k → markup (t ++ r) ≡ Some (k, r)
+markup_again t r k s (inl m) =
+    let first = angle_markup_begins k t s m in
     let split : t ++ r ≡ 60 ∷ (first.0 ++ r) = ap (λ t. t ++ r) first.1 in
-    ap delimited split ∙ ap angled (sym split) ∙ angled_again t r k s m
-delimited_again t r k s (inr ref) =
+    ap markup split ∙ ap angle_markup (sym split) ∙ angle_markup_again t r k s m
+markup_again t r k s (inr ref) =
     let found = spells_found k t s ref in
     let inner = found_inner k t found in
     let split : t ++ r ≡ 38 ∷ (inner.0 ++ r) = ap (λ t. t ++ r) inner.1 in
-    ap delimited split ∙ ap reference (sym split) ∙ reference_again t r k found
+    ap markup split ∙ ap reference (sym split) ∙ reference_again t r k found
 
-delimited_takes : (s r : List ℕ) (k : TokenKind) → IsUtf8 s → delimited s ≡ Some (k, r) → (t : List ℕ) × (s ≡ t ++ r) × Spells k t × IsDelimited k
-delimited_takes [] r k u h = absurd (cc)
-delimited_takes (b ∷ bs) r k u h =
+markup_takes : (s r : List ℕ) (k : TokenKind) → IsUtf8 s → markup s ≡ Some (k, r) → (t : List ℕ) × (s ≡ t ++ r) × Spells k t × IsMarkup k
+markup_takes [] r k u h = absurd (cc)
+markup_takes (b ∷ bs) r k u h =
     elim (cases_Bool (eqb b 60)) [
       | inl e ↦
-          let found = angled_takes (b ∷ bs) r k u (rw e at h) in
+          let found = angle_markup_takes (b ∷ bs) r k u (rw e at h) in
           (found.0, found.1, found.2, inl found.3)
       | inr e ↦ elim (cases_Bool (eqb b 38)) [
         | inl f ↦
@@ -175,54 +175,54 @@ not_chars s k n begins f is =
     let g : IsFront char_data n s = subst (λ k. IsFront k n s) is f in
     (chars_begin s n g).1 begins
 
-is_delimited : (s : List ℕ) (k : TokenKind) (n : ℕ) → IsDelimiter (get_or s 0 0) → IsFront k n s → IsDelimited k
-is_delimited s k n begins f = elim (kinds k) [
+is_markup : (s : List ℕ) (k : TokenKind) (n : ℕ) → IsDelimiter (get_or s 0 0) → IsFront k n s → IsMarkup k
+is_markup s k n begins f = elim (kinds k) [
   | inl is ↦ absurd (not_chars s k n begins f is)
   | inr other ↦ other
 ]
 
-pub delimited_front : (s : List ℕ) (k : TokenKind) (n : ℕ) → IsDelimiter (get_or s 0 0) → IsFront k n s → delimited s ≡ Some (k, drop n s)
-delimited_front s k n begins f =
-    subst (λ t. delimited t ≡ Some (k, drop n s)) (take-append-drop n s) (delimited_again (take n s) (drop n s) k f.spelled (is_delimited s k n begins f))
+pub markup_front : (s : List ℕ) (k : TokenKind) (n : ℕ) → IsDelimiter (get_or s 0 0) → IsFront k n s → markup s ≡ Some (k, drop n s)
+markup_front s k n begins f =
+    subst (λ t. markup t ≡ Some (k, drop n s)) (take-append-drop n s) (markup_again (take n s) (drop n s) k f.spelled (is_markup s k n begins f))
 
-pub stands_delimited : (k : TokenKind) (n : ℕ) (s : List ℕ) → IsDelimited k → MayStand k n s
-stands_delimited char_data n s h = absurd (not_data char_data refl h)
-stands_delimited start_tag n s h = tt
-stands_delimited empty_tag n s h = tt
-stands_delimited end_tag n s h = tt
-stands_delimited char_ref n s h = tt
-stands_delimited entity_ref n s h = tt
-stands_delimited cdata_section n s h = tt
-stands_delimited comment n s h = tt
-stands_delimited pi n s h = tt
-stands_delimited declaration n s h = tt
-stands_delimited doctype n s h = tt
+pub stands_markup : (k : TokenKind) (n : ℕ) (s : List ℕ) → IsMarkup k → MayStand k n s
+stands_markup char_data n s h = absurd (not_data char_data refl h)
+stands_markup start_tag n s h = tt
+stands_markup empty_tag n s h = tt
+stands_markup end_tag n s h = tt
+stands_markup char_ref n s h = tt
+stands_markup entity_ref n s h = tt
+stands_markup cdata_section n s h = tt
+stands_markup comment n s h = tt
+stands_markup pi n s h = tt
+stands_markup declaration n s h = tt
+stands_markup doctype n s h = tt
 
-pub delimited_shorter : (s r : List ℕ) (k : TokenKind) → IsUtf8 s → delimited s ≡ Some (k, r) → length r ≤ length s
-delimited_shorter s r k u h =
-    let found = delimited_takes s r k u h in
+pub markup_shorter : (s r : List ℕ) (k : TokenKind) → IsUtf8 s → markup s ≡ Some (k, r) → length r ≤ length s
+markup_shorter s r k u h =
+    let found = markup_takes s r k u h in
     omega (arith, ap length found.1, length-append found.0 r)
 
-pub delimited_longest : (s r : List ℕ) (k : TokenKind) → IsUtf8 s → IsDelimiter (get_or s 0 0) → delimited s ≡ Some (k, r) → IsLongestFront s k (length s - length r)
-delimited_longest s r k u begins h =
-    let found = delimited_takes s r k u h in
+pub markup_longest : (s r : List ℕ) (k : TokenKind) → IsUtf8 s → IsDelimiter (get_or s 0 0) → markup s ≡ Some (k, r) → IsLongestFront s k (length s - length r)
+markup_longest s r k u begins h =
+    let found = markup_takes s r k u h in
     let size : length found.0 ≡ length s - length r = omega (arith, ap length found.1, length-append found.0 r) in
     let same : take (length s - length r) s ≡ found.0 = ap (take (length s - length r)) found.1 ∙ take_at found.0 r (length s - length r) size in
     record {
       front = record {
         within = omega arith;
         spelled = subst (Spells k) (sym same) found.2;
-        stands = stands_delimited k (length s - length r) s found.3;
+        stands = stands_markup k (length s - length r) s found.3;
       };
       longest = λ other m f.
-          let again = delimited_front s other m begins f in
+          let again = markup_front s other m begins f in
           let both = pair_parts other k (drop m s) r (sym again ∙ h) in
           (both.0, let w = f.within in omega (arith, ap length both.1, length-drop m s));
     }
 
-pub delimited_none : (s : List ℕ) → IsDelimiter (get_or s 0 0) → delimited s ≡ None → NoFront s
-delimited_none s begins h k n f =
-    let again = delimited_front s k n begins f in
+pub markup_none : (s : List ℕ) → IsDelimiter (get_or s 0 0) → markup s ≡ None → NoFront s
+markup_none s begins h k n f =
+    let again = markup_front s k n begins f in
     absurd (cc)
 
 first_of : (s : List ℕ) (n b : ℕ) (x : List ℕ) → take n s ≡ b ∷ x → get_or s 0 0 ≡ b
@@ -231,9 +231,9 @@ first_of [] (suc n) b x h = absurd (cc)
 first_of (y ∷ ys) (suc n) b x h = ap (λ t. get_or t 0 0) h
 
 -- other tokens begin with a delimiter
-pub begins_delimiter : (s : List ℕ) (k : TokenKind) (n : ℕ) → IsFront k n s → IsDelimited k → IsDelimiter (get_or s 0 0)
+pub begins_delimiter : (s : List ℕ) (k : TokenKind) (n : ℕ) → IsFront k n s → IsMarkup k → IsDelimiter (get_or s 0 0)
 begins_delimiter s k n f d =
-    let first = delimited_begins k (take n s) f.spelled d in
+    let first = markup_begins k (take n s) f.spelled d in
     subst IsDelimiter (sym (first_of s n first.0 first.1 first.2)) first.3
 
 no_char_behind : (es x y rest : List ℕ) (c : ℕ) → AllByRecursion IsPlain es → encode_utf8_all es ≡ x → 0 < length x → x ++ y ≡ encode_utf8 c ++ rest → is_char c ≡ false → ⊥
@@ -314,5 +314,5 @@ some_taken s (suc n) begins = omega arith
 pub front_some : (s : List ℕ) (k : TokenKind) (n : ℕ) → IsFront k n s → 0 < n
 front_some s k n f = elim (kinds k) [
   | inl e ↦ (chars_begin s n (subst (λ k. IsFront k n s) e f)).0
-  | inr other ↦ some_taken s n (delimited_begins k (take n s) f.spelled other)
+  | inr other ↦ some_taken s n (markup_begins k (take n s) f.spelled other)
 ]

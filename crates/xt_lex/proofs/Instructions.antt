@@ -9,32 +9,32 @@ use Rattle.xt_spec.specs.Name.{are_ncname_chars}
 use Rattle.xt_spec.specs.Markup.{lacks, AreChars, is_reserved, IsPiTarget, IsPiData}
 use Rattle.xt_spec.specs.Tag.{IsBlank, IsSpace}
 use Rattle.xt_lex.specs.NameTest.{is_name_byte}
-use Rattle.xt_lex.specs.Scan.{◌>>=◌, maybe, run, behind, after_space, after_all, after_chars, after_target, after_data}
+use Rattle.xt_lex.specs.Scan.{◌>>=◌, maybe, take_while, drop_while, after_space, after_all, after_chars, after_target, after_data}
 use Rattle.xt_lex.proofs.Cuts.{after_all_takes, after_chars_takes, after_chars_again, chars_behind, chars_utf8, lacks_from_fresh, Stays, fresh_from_lacks}
 use Rattle.xt_lex.proofs.NameLemmas.{ncname_from_test, test_from_ncname, ncname_passes}
 use Rattle.xt_lex.proofs.Runs.{space_ascii}
 use Rattle.xt_lex.proofs.Spelling.{spelt_ascii, spelt_joined, list_all_weaker}
-use Rattle.xt_lex.proofs.StepLemmas.{bind_some, run_split, run_append, behind_append, name_run_utf8, space_no_name}
+use Rattle.xt_lex.proofs.StepLemmas.{bind_some, take_while_split, take_while_append, drop_while_append, name_run_utf8, space_no_name}
 use Rattle.xt_lex.proofs.Utf8.{ascii, blank_utf8}
 use Rattle.xt_scan.proofs.Theorems.{space_small}
 
-pub target_takes : (s r : List ℕ) → IsUtf8 s → after_target s ≡ Some r → IsPiTarget (run is_name_byte s) × (s ≡ run is_name_byte s ++ r)
+pub target_takes : (s r : List ℕ) → IsUtf8 s → after_target s ≡ Some r → IsPiTarget (take_while is_name_byte s) × (s ≡ take_while is_name_byte s ++ r)
 target_takes s r u h =
-    let name = run is_name_byte s in
+    let name = take_while is_name_byte s in
     elim (cases_Bool (are_ncname_chars (chars name) && not (is_reserved name))) [
       | inl e ↦
           let both = and_parts _ _ e in
-          let rest : Some (behind is_name_byte s) ≡ Some r = rw e at h in
-          let same : behind is_name_byte s ≡ r = cc in
-          ((ncname_from_test name (name_run_utf8 s u) both.0, not-true _ both.1), run_split is_name_byte s ∙ ap (λ t. name ++ t) same)
+          let rest : Some (drop_while is_name_byte s) ≡ Some r = rw e at h in
+          let same : drop_while is_name_byte s ≡ r = cc in
+          ((ncname_from_test name (name_run_utf8 s u) both.0, not-true _ both.1), take_while_split is_name_byte s ∙ ap (λ t. name ++ t) same)
       | inr e ↦ let none : None ≡ Some r = rw e at h in absurd (cc)
     ]
 
-pub target_again : (target r : List ℕ) → IsPiTarget target → run is_name_byte r ≡ [] → behind is_name_byte r ≡ r → after_target (target ++ r) ≡ Some r
+pub target_again : (target r : List ℕ) → IsPiTarget target → take_while is_name_byte r ≡ [] → drop_while is_name_byte r ≡ r → after_target (target ++ r) ≡ Some r
 target_again target r (name, reserved) none all =
     let bytes = ncname_passes target name in
-    let front : run is_name_byte (target ++ r) ≡ target = run_append is_name_byte target r bytes ∙ ap (λ t. target ++ t) none ∙ append-nil target in
-    let back : behind is_name_byte (target ++ r) ≡ r = behind_append is_name_byte target r bytes ∙ all in
+    let front : take_while is_name_byte (target ++ r) ≡ target = take_while_append is_name_byte target r bytes ∙ ap (λ t. target ++ t) none ∙ append-nil target in
+    let back : drop_while is_name_byte (target ++ r) ≡ r = drop_while_append is_name_byte target r bytes ∙ all in
     let test : are_ncname_chars (chars target) && not (is_reserved target) ≡ true = and_from _ _ (test_from_ncname target name) (not_from_false _ reserved) in
     rw (front, back) (rw test refl)
 
@@ -102,7 +102,7 @@ data_again text_ r (inl e) = rw e (ends_again r)
 data_again text_ r (inr (space, inner, sp, chars_, lacks_, e)) = rw e (spaced_again space inner r sp chars_ lacks_)
 
 -- what follows the target begins no name
-pub data_no_name : (text_ r : List ℕ) → IsPiData text_ → (run is_name_byte (text_ ++ (codes "?>" ++ r)) ≡ []) × (behind is_name_byte (text_ ++ (codes "?>" ++ r)) ≡ text_ ++ (codes "?>" ++ r))
+pub data_no_name : (text_ r : List ℕ) → IsPiData text_ → (take_while is_name_byte (text_ ++ (codes "?>" ++ r)) ≡ []) × (drop_while is_name_byte (text_ ++ (codes "?>" ++ r)) ≡ text_ ++ (codes "?>" ++ r))
 data_no_name text_ r (inl e) = rw e (refl, refl)
 data_no_name text_ r (inr ([], inner, sp, chars_, lacks_, e)) = absurd (sp.1 refl)
 data_no_name text_ r (inr (b ∷ bs, inner, sp, chars_, lacks_, e)) =

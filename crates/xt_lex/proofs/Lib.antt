@@ -17,7 +17,7 @@ pub mod Quotes
 pub mod Declarations
 pub mod Subsets
 pub mod Doctypes
-pub mod Angled
+pub mod AngleMarkup
 pub mod Fronts
 pub mod Texts
 pub mod Places

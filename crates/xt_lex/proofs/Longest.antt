@@ -6,26 +6,26 @@ use Rattle.xt_spec.specs.Token.{TokenKind, char_data, Spells, HoldsNoClose, NoCl
 use Rattle.xt_lex.specs.Data.{IsDelimiter}
 use Rattle.xt_lex.specs.Place.{Follows}
 use Rattle.xt_lex.proofs.DataLemmas.{close_reads, close_from_reads, cut_close}
-use Rattle.xt_lex.proofs.Fronts.{IsDelimited, kinds, delimited_begins, delimited_again, delimited_front, stands_delimited, begins_delimiter, chars_begin, plain_bytes}
+use Rattle.xt_lex.proofs.Fronts.{IsMarkup, kinds, markup_begins, markup_again, markup_front, stands_markup, begins_delimiter, chars_begin, plain_bytes}
 use Rattle.xt_lex.proofs.References.{pair_parts}
 
 begins_at : (t rest : List ℕ) (b : ℕ) (x : List ℕ) → t ≡ b ∷ x → IsDelimiter b → IsDelimiter (get_or (t ++ rest) 0 0)
 begins_at t rest b x e is = let first : get_or (t ++ rest) 0 0 ≡ b = ap (λ t. get_or (t ++ rest) 0 0) e in subst IsDelimiter (sym first) is
 
-delimited_token : (kind : TokenKind) (t rest : List ℕ) → Spells kind t → IsDelimited kind → IsLongestFront (t ++ rest) kind (length t)
-delimited_token kind t rest h d =
-    let first = delimited_begins kind t h d in
+markup_token : (kind : TokenKind) (t rest : List ℕ) → Spells kind t → IsMarkup kind → IsLongestFront (t ++ rest) kind (length t)
+markup_token kind t rest h d =
+    let first = markup_begins kind t h d in
     let begins = begins_at t rest first.0 first.1 first.2 first.3 in
-    let again = delimited_again t rest kind h d in
+    let again = markup_again t rest kind h d in
     let sizes = length-append t rest in
     record {
       front = record {
         within = omega arith;
         spelled = subst (Spells kind) (sym (take_at t rest (length t) refl)) h;
-        stands = stands_delimited kind (length t) (t ++ rest) d;
+        stands = stands_markup kind (length t) (t ++ rest) d;
       };
       longest = λ other m f.
-          let found = delimited_front (t ++ rest) other m begins f in
+          let found = markup_front (t ++ rest) other m begins f in
           let both = pair_parts other kind (drop m (t ++ rest)) rest (sym found ∙ again) in
           let within = f.within in
           (both.0, omega (arith, ap length both.1, length-drop m (t ++ rest)));
@@ -79,5 +79,5 @@ data_token t rest h follows =
 pub token_longest : (kind : TokenKind) (t rest : List ℕ) → Spells kind t → (kind ≡ char_data → Follows rest) → IsLongestFront (t ++ rest) kind (length t)
 token_longest kind t rest h follows = elim (kinds kind) [
   | inl e ↦ subst (λ k. IsLongestFront (t ++ rest) k (length t)) (sym e) (data_token t rest (subst (λ k. Spells k t) e h) (follows e))
-  | inr d ↦ delimited_token kind t rest h d
+  | inr d ↦ markup_token kind t rest h d
 ]

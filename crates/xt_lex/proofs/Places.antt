@@ -8,14 +8,14 @@ use Rattle.xt_spec.specs.Name.{IsQName}
 use Rattle.xt_spec.specs.Tag.{Attribute, attribute_text, IsSpace}
 use Rattle.xt_lex.specs.NameTest.{is_name_byte}
 use Rattle.xt_lex.specs.Place.{EndsName, IsNameAt, NoNameAt, IsAttributeAt, NoAttributeAt}
-use Rattle.xt_lex.specs.Scan.{run, behind, Rests, attribute_rests}
+use Rattle.xt_lex.specs.Scan.{take_while, drop_while, Rests, attribute_rests}
 use Rattle.xt_lex.specs.declared.attribute.AttrSrc.{AttrSrc}
 use Rattle.xt_lex.proofs.Attributes.{AttributeFront, utf8_rest, rests_again, front_whole}
 use Rattle.xt_lex.proofs.NameLemmas.{qname_bytes, qname_nonempty}
-use Rattle.xt_lex.proofs.StepLemmas.{run_split, run_append}
+use Rattle.xt_lex.proofs.StepLemmas.{take_while_split, take_while_append}
 use Rattle.xt_lex.proofs.Utf8.{qname_utf8}
 
-behind_ends : (s : List ℕ) → EndsName (behind is_name_byte s)
+behind_ends : (s : List ℕ) → EndsName (drop_while is_name_byte s)
 behind_ends [] = tt
 behind_ends (b ∷ bs) =
     elim (cases_Bool (is_name_byte b)) [
@@ -24,12 +24,12 @@ behind_ends (b ∷ bs) =
     ]
 
 -- what ends a name has no byte of a name at its front
-pub ends_run : (rest : List ℕ) → EndsName rest → run is_name_byte rest ≡ []
+pub ends_run : (rest : List ℕ) → EndsName rest → take_while is_name_byte rest ≡ []
 ends_run [] h = refl
 ends_run (b ∷ bs) h = let stops : is_name_byte b ≡ false = h in rw stops refl
 
-pub name_run : (name rest : List ℕ) → IsQName name → EndsName rest → run is_name_byte (name ++ rest) ≡ name
-name_run name rest q ends = run_append is_name_byte name rest (qname_bytes name q) ∙ ap (λ t. name ++ t) (ends_run rest ends) ∙ append-nil name
+pub name_run : (name rest : List ℕ) → IsQName name → EndsName rest → take_while is_name_byte (name ++ rest) ≡ name
+name_run name rest q ends = take_while_append is_name_byte name rest (qname_bytes name q) ∙ ap (λ t. name ++ t) (ends_run rest ends) ∙ append-nil name
 
 -- a name stands there, and the text goes on to where it ends
 pub record NamePlace (text : List ℕ) (at to : ℕ) : Type 0 where
@@ -38,10 +38,10 @@ pub record NamePlace (text : List ℕ) (at to : ℕ) : Type 0 where
   pub fits : to ≤ length text
   pub cut : IsCharBoundary text to
 
-pub name_place : (text : List ℕ) (at : ℕ) (s name : List ℕ) → IsUtf8 s → at ≤ length text → s ≡ drop at text → name ≡ run is_name_byte s → IsQName name → NamePlace text at (at + length name)
+pub name_place : (text : List ℕ) (at : ℕ) (s name : List ℕ) → IsUtf8 s → at ≤ length text → s ≡ drop at text → name ≡ take_while is_name_byte s → IsQName name → NamePlace text at (at + length name)
 name_place text at s name u within is front q =
-    let rest = behind is_name_byte s in
-    let split : s ≡ name ++ rest = run_split is_name_byte s ∙ ap (λ t. t ++ rest) (sym front) in
+    let rest = drop_while is_name_byte s in
+    let split : s ≡ name ++ rest = take_while_split is_name_byte s ∙ ap (λ t. t ++ rest) (sym front) in
     let utf8 = utf8_rest s name rest u (qname_utf8 name q) split in
     let some = qname_nonempty name q in
     let sizes = length-append name rest in
@@ -56,9 +56,9 @@ name_place text at s name u within is front q =
       cut = IsCharBoundary-from_rest text at (length name) within seam;
     }
 
-pub no_name : (text : List ℕ) (at : ℕ) (s name : List ℕ) → s ≡ drop at text → name ≡ run is_name_byte s → (IsQName name → ⊥) → NoNameAt text at
+pub no_name : (text : List ℕ) (at : ℕ) (s name : List ℕ) → s ≡ drop at text → name ≡ take_while is_name_byte s → (IsQName name → ⊥) → NoNameAt text at
 no_name text at s name is front refuses other rest q ends stands =
-    let same : name ≡ other = front ∙ ap (run is_name_byte) (is ∙ stands) ∙ name_run other rest q ends in
+    let same : name ≡ other = front ∙ ap (take_while is_name_byte) (is ∙ stands) ∙ name_run other rest q ends in
     refuses (subst IsQName (sym same) q)
 
 -- how long what stands before each of the places of an attribute is

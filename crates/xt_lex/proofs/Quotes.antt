@@ -5,7 +5,7 @@ use Rattle.std.specs.Str.{IsUtf8}
 use Rattle.xt_spec.specs.Char.{is_space}
 use Rattle.xt_spec.specs.Declaration.{IsQuoted}
 use Rattle.xt_scan.proofs.Theorems.{any_quoted_takes, any_quoted_again}
-use Rattle.xt_lex.specs.Scan.{behind, quoted}
+use Rattle.xt_lex.specs.Scan.{drop_while, quoted}
 use Rattle.xt_lex.proofs.Utf8.{ascii}
 
 pub quoted_takes : (s value r : List ℕ) → quoted s ≡ Some (value, r) → (t : List ℕ) × IsQuoted value t × (s ≡ t ++ r)
@@ -15,7 +15,7 @@ pub quoted_again : (t value r : List ℕ) → IsQuoted value t → quoted (t ++ 
 quoted_again t value r is = any_quoted_again value t r is
 
 -- what begins with a quote begins with no white space
-pub quoted_solid : (t value r : List ℕ) → IsQuoted value t → behind is_space (t ++ r) ≡ t ++ r
+pub quoted_solid : (t value r : List ℕ) → IsQuoted value t → drop_while is_space (t ++ r) ≡ t ++ r
 quoted_solid t value r (q, inl is, lacks, e) = rw (e, is) refl
 quoted_solid t value r (q, inr is, lacks, e) = rw (e, is) refl
 

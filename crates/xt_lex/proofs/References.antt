@@ -10,10 +10,10 @@ use Rattle.xt_spec.specs.Name.{IsNCName, IsSpeltBy}
 use Rattle.xt_spec.specs.Reference.{is_decimal_digit, is_hexadecimal_digit, number_behind, AreDigits, NamesChar, IsEntityRef, StandsFor}
 use Rattle.xt_spec.specs.Token.{TokenKind, char_ref, entity_ref}
 use Rattle.xt_lex.specs.NameTest.{is_name_byte}
-use Rattle.xt_lex.specs.Scan.{maybe, run, behind, after, after_ncname, named, after_number, after_char_ref, entity_step, number_step, ended, numbered, reference, is_attr_char}
+use Rattle.xt_lex.specs.Scan.{maybe, take_while, drop_while, after, after_ncname, named, after_number, after_char_ref, entity_step, number_step, ended, numbered, reference, is_attr_char}
 use Rattle.xt_lex.proofs.NameLemmas.{ncname_passes, ncname_nonempty, name_all}
 use Rattle.xt_lex.proofs.Spelling.{list_all_weaker, list_all_joined, spelt_joined, spelt_ascii}
-use Rattle.xt_lex.proofs.StepLemmas.{bind_some, run_split, run_passes, run_append, behind_append, after_takes, after_ncname_takes, after_ncname_again, utf8_behind}
+use Rattle.xt_lex.proofs.StepLemmas.{bind_some, take_while_split, take_while_passes, take_while_append, drop_while_append, after_takes, after_ncname_takes, after_ncname_again, utf8_behind}
 
 pub pair_parts : {A : Type 0} (x y : A) (q r : List ℕ) → ◌≡◌ {A = Option (A × List ℕ)} (Some (x, q)) (Some (y, r)) → (x ≡ y) × (q ≡ r)
 pair_parts {A} x y q r h =
@@ -30,30 +30,30 @@ named_some base digits c h =
       | inr e ↦ let none : None ≡ Some c = rw e at h in absurd (cc)
     ]
 
-number_takes : (base : ℕ) (is_digit : ℕ → Bool) (s r : List ℕ) (c : ℕ) → after_number base is_digit s ≡ Some (c, r) → (is_char c ≡ true) × AreDigits base is_digit (run is_digit s) c × (s ≡ run is_digit s ++ (59 ∷ r))
+number_takes : (base : ℕ) (is_digit : ℕ → Bool) (s r : List ℕ) (c : ℕ) → after_number base is_digit s ≡ Some (c, r) → (is_char c ≡ true) × AreDigits base is_digit (take_while is_digit s) c × (s ≡ take_while is_digit s ++ (59 ∷ r))
 unfolding after_number
 number_takes base is_digit s r c h =
-    let n = bind_some (named base (run is_digit s)) _ _ h in
-    let semicolon = bind_some (after 59 (behind is_digit s)) _ _ n.2 in
+    let n = bind_some (named base (take_while is_digit s)) _ _ h in
+    let semicolon = bind_some (after 59 (drop_while is_digit s)) _ _ n.2 in
     let found = pair_parts n.0 c semicolon.0 r semicolon.2 in
-    let char = named_some base (run is_digit s) n.0 n.1 in
-    let same : number_behind base 0 (run is_digit s) ≡ c = char.1 ∙ found.0 in
+    let char = named_some base (take_while is_digit s) n.0 n.1 in
+    let same : number_behind base 0 (take_while is_digit s) ≡ c = char.1 ∙ found.0 in
     let test : is_char c ≡ true = subst (λ n. is_char n ≡ true) found.0 char.0 in
-    let close = after_takes 59 (behind is_digit s) semicolon.0 semicolon.1 in (
+    let close = after_takes 59 (drop_while is_digit s) semicolon.0 semicolon.1 in (
       test,
       record {
         some = λ e. let zero : 0 ≡ c = ap (λ ds. number_behind base 0 ds) (sym e) ∙ same in both_ways (is_char c) (subst (λ n. is_char n ≡ false) zero refl) test;
-        all = run_passes is_digit s;
+        all = take_while_passes is_digit s;
         spell = same;
       },
-      run_split is_digit s ∙ ap (λ t. run is_digit s ++ t) (close ∙ ap (λ t. 59 ∷ t) found.1),
+      take_while_split is_digit s ∙ ap (λ t. take_while is_digit s ++ t) (close ∙ ap (λ t. 59 ∷ t) found.1),
     )
 
 number_again : (base : ℕ) (is_digit : ℕ → Bool) (digits r : List ℕ) (c : ℕ) → is_digit 59 ≡ false → AreDigits base is_digit digits c → is_char c ≡ true → after_number base is_digit (digits ++ (59 ∷ r)) ≡ Some (c, r)
 unfolding after_number
 number_again base is_digit digits r c semicolon d h =
-    let front : run is_digit (digits ++ (59 ∷ r)) ≡ digits = run_append is_digit digits (59 ∷ r) d.all ∙ ap (λ t. digits ++ t) (rw semicolon refl) ∙ append-nil digits in
-    let back : behind is_digit (digits ++ (59 ∷ r)) ≡ 59 ∷ r = behind_append is_digit digits (59 ∷ r) d.all ∙ rw semicolon refl in
+    let front : take_while is_digit (digits ++ (59 ∷ r)) ≡ digits = take_while_append is_digit digits (59 ∷ r) d.all ∙ ap (λ t. digits ++ t) (rw semicolon refl) ∙ append-nil digits in
+    let back : drop_while is_digit (digits ++ (59 ∷ r)) ≡ 59 ∷ r = drop_while_append is_digit digits (59 ∷ r) d.all ∙ rw semicolon refl in
     let test : is_char (number_behind base 0 digits) ≡ true = subst (λ n. is_char n ≡ true) (sym d.spell) h in
     let named_ : named base digits ≡ Some c = rw test (ap (λ n. Some n) d.spell) in
     rw (front, back) (rw named_ refl)
@@ -61,11 +61,11 @@ number_again base is_digit digits r c semicolon d h =
 char_ref_by : (s r : List ℕ) (c : ℕ) (o : Option (List ℕ)) → after 120 s ≡ o → maybe (after_number 10 is_decimal_digit s) (after_number 16 is_hexadecimal_digit) o ≡ Some (c, r) → (t : List ℕ) × (s ≡ t ++ r) × NamesChar (38 ∷ 35 ∷ t) c
 char_ref_by s r c None e h =
     let n = number_takes 10 is_decimal_digit s r c h in
-    let digits = run is_decimal_digit s in
+    let digits = take_while is_decimal_digit s in
     (digits ++ codes ";", n.2 ∙ sym (append_assoc digits (codes ";") r), (n.0, inl (digits, n.1, refl)))
 char_ref_by s r c (Some x) e h =
     let n = number_takes 16 is_hexadecimal_digit x r c h in
-    let digits = run is_hexadecimal_digit x in
+    let digits = take_while is_hexadecimal_digit x in
     (120 ∷ (digits ++ codes ";"), after_takes 120 s x e ∙ ap (λ t. 120 ∷ t) (n.2 ∙ sym (append_assoc digits (codes ";") r)), (n.0, inr (digits, n.1, refl)))
 
 pub char_ref_takes : (s r : List ℕ) (c : ℕ) → after_char_ref s ≡ Some (c, r) → (t : List ℕ) × (s ≡ t ++ r) × NamesChar (38 ∷ 35 ∷ t) c
@@ -102,7 +102,7 @@ reference_by s r k None u e h =
     let found = pair_parts entity_ref k semicolon.0 r semicolon.2 in
     let name = after_ncname_takes s n.0 u n.1 in
     let close = after_takes 59 n.0 semicolon.0 semicolon.1 in
-    let front = run is_name_byte s in
+    let front = take_while is_name_byte s in
     (front ++ codes ";", name.1 ∙ ap (λ t. front ++ t) (close ∙ ap (λ t. 59 ∷ t) found.1) ∙ sym (append_assoc front (codes ";") r), inr (sym found.0, (front, name.0, refl)))
 reference_by s r k (Some h1) u e h =
     let x = bind_some (after_char_ref h1) _ _ h in

@@ -7,7 +7,7 @@ use denote.Ref.{Bor}
 use Rattle.xt_spec.specs.Reference.{is_decimal_digit, is_hexadecimal_digit}
 use Rattle.xt_lex.specs.NameTest.{is_name_byte}
 use Rattle.xt_lex.specs.Scan.{after, is_plain_in_subset}
-pub use Rattle.xt_scan.proofs.Theorems.{run_is, boundary_at_stop, behind_is, space_ascii, boundary_behind, boundary_behind_or_start, byte_len}
+pub use Rattle.xt_scan.proofs.Theorems.{take_while_is, boundary_at_stop, drop_while_is, space_ascii, boundary_behind, boundary_behind_or_start, byte_len}
 
 pub stop_ascii : (b : ℕ) → is_name_byte b ≡ false → b < 128
 stop_ascii b h = leb-false 128 b (or_parts _ _ h).0

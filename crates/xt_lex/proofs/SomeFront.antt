@@ -8,9 +8,9 @@ use Rattle.std.specs.Str.{IsUtf8, NonePass, IsCharBoundary}
 use Rattle.xt_spec.specs.Char.{is_char}
 use Rattle.xt_spec.specs.Token.{TokenKind, char_data, BeginsClose, NoFront, IsLongestFront}
 use Rattle.xt_lex.specs.Data.{is_no_char, AreFirstChars, IsDelimiter, IsFirstDelimiter, IsFirstClose, IsFirstData}
-use Rattle.xt_lex.specs.Scan.{delimited}
+use Rattle.xt_lex.specs.Scan.{markup}
 use Rattle.xt_lex.proofs.DataLemmas.{front_data, close_reads}
-use Rattle.xt_lex.proofs.Fronts.{delimited_longest, delimited_none, data_longest, data_none}
+use Rattle.xt_lex.proofs.Fronts.{markup_longest, markup_none, data_longest, data_none}
 
 -- ---- the first `<` or `&`
 
@@ -141,13 +141,13 @@ by_data : (s : List ℕ) (n : ℕ) → ¬ IsDelimiter (get_or s 0 0) → IsFirst
 by_data s zero none is = inr (data_none s none is)
 by_data s (suc n) none is = inl (char_data, suc n, data_longest s (suc n) none is (omega arith))
 
-by_delimited : (s : List ℕ) → IsUtf8 s → IsDelimiter (get_or s 0 0) → (o : Option (TokenKind × List ℕ)) → delimited s ≡ o → ((k : TokenKind) × (m : ℕ) × IsLongestFront s k m) ⊎ NoFront s
-by_delimited s u begins None is = inr (delimited_none s begins is)
-by_delimited s u begins (Some (k, r)) is = inl (k, length s - length r, delimited_longest s r k u begins is)
+by_markup : (s : List ℕ) → IsUtf8 s → IsDelimiter (get_or s 0 0) → (o : Option (TokenKind × List ℕ)) → markup s ≡ o → ((k : TokenKind) × (m : ℕ) × IsLongestFront s k m) ⊎ NoFront s
+by_markup s u begins None is = inr (markup_none s begins is)
+by_markup s u begins (Some (k, r)) is = inl (k, length s - length r, markup_longest s r k u begins is)
 
 -- a token stands at the front of a text, or none does
 pub some_front : (s : List ℕ) → IsUtf8 s → ((k : TokenKind) × (n : ℕ) × IsLongestFront s k n) ⊎ NoFront s
 some_front s u = elim (is_delimiter (get_or s 0 0)) [
-  | inl begins ↦ by_delimited s u begins (delimited s) refl
+  | inl begins ↦ by_markup s u begins (markup s) refl
   | inr none ↦ let found = some_data s u in by_data s found.0 none found.1
 ]

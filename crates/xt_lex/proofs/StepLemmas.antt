@@ -10,24 +10,24 @@ use Rattle.xt_spec.specs.Name.{are_ncname_chars, IsNCName, IsQName}
 use Rattle.xt_lex.specs.NameTest.{is_name_byte, qname}
 use Rattle.xt_spec.specs.Tag.{IsBlank}
 use Rattle.std.specs.Str.{chars}
-use Rattle.xt_lex.specs.Scan.{run, behind, after, after_qname, after_ncname}
-use Rattle.xt_lex.proofs.Runs.{run_is, boundary_at_stop, stop_ascii}
+use Rattle.xt_lex.specs.Scan.{take_while, drop_while, after, after_qname, after_ncname}
+use Rattle.xt_lex.proofs.Runs.{take_while_is, boundary_at_stop, stop_ascii}
 use Rattle.xt_lex.proofs.NameLemmas.{qname_from_test, test_from_qname, qname_bytes, ncname_from_test, test_from_ncname, ncname_passes}
-pub use Rattle.xt_scan.proofs.Theorems.{bind_some, run_split, run_passes, utf8_behind}
+pub use Rattle.xt_scan.proofs.Theorems.{bind_some, take_while_split, take_while_passes, utf8_behind}
 
-pub run_append : (p : ℕ → Bool) (a r : List ℕ) → list_all p a ≡ true → run p (a ++ r) ≡ a ++ run p r
-run_append p [] r h = refl
-run_append p (x ∷ xs) r h =
+pub take_while_append : (p : ℕ → Bool) (a r : List ℕ) → list_all p a ≡ true → take_while p (a ++ r) ≡ a ++ take_while p r
+take_while_append p [] r h = refl
+take_while_append p (x ∷ xs) r h =
     let both = and_parts _ _ h in
     let first : p x ≡ true = both.0 in
-    rw first (ap (λ t. x ∷ t) (run_append p xs r both.1))
+    rw first (ap (λ t. x ∷ t) (take_while_append p xs r both.1))
 
-pub behind_append : (p : ℕ → Bool) (a r : List ℕ) → list_all p a ≡ true → behind p (a ++ r) ≡ behind p r
-behind_append p [] r h = refl
-behind_append p (x ∷ xs) r h =
+pub drop_while_append : (p : ℕ → Bool) (a r : List ℕ) → list_all p a ≡ true → drop_while p (a ++ r) ≡ drop_while p r
+drop_while_append p [] r h = refl
+drop_while_append p (x ∷ xs) r h =
     let both = and_parts _ _ h in
     let first : p x ≡ true = both.0 in
-    rw first (behind_append p xs r both.1)
+    rw first (drop_while_append p xs r both.1)
 
 pub after_takes : (c : ℕ) (s r : List ℕ) → after c s ≡ Some r → s ≡ c ∷ r
 after_takes c [] r h = absurd (cc)
@@ -37,56 +37,56 @@ after_takes c (b ∷ bs) r h =
       | inr e ↦ let none : None ≡ Some r = rw e at h in absurd (cc)
     ]
 
-pub after_qname_takes : (s r : List ℕ) → IsUtf8 s → after_qname s ≡ Some r → IsQName (run is_name_byte s) × (s ≡ run is_name_byte s ++ r)
+pub after_qname_takes : (s r : List ℕ) → IsUtf8 s → after_qname s ≡ Some r → IsQName (take_while is_name_byte s) × (s ≡ take_while is_name_byte s ++ r)
 after_qname_takes s r u h =
-    elim (cases_Bool (qname (run is_name_byte s))) [
+    elim (cases_Bool (qname (take_while is_name_byte s))) [
       | inl e ↦
-          let rest : Some (behind is_name_byte s) ≡ Some r = rw e at h in
-          let utf8 : IsUtf8 (run is_name_byte s) = subst IsUtf8 (run_is is_name_byte s) (IsUtf8-take s (prefix_len is_name_byte s) u (boundary_at_stop is_name_byte s stop_ascii)) in
-          let same : behind is_name_byte s ≡ r = cc in
-          (qname_from_test _ utf8 e, run_split is_name_byte s ∙ ap (λ t. run is_name_byte s ++ t) same)
+          let rest : Some (drop_while is_name_byte s) ≡ Some r = rw e at h in
+          let utf8 : IsUtf8 (take_while is_name_byte s) = subst IsUtf8 (take_while_is is_name_byte s) (IsUtf8-take s (prefix_len is_name_byte s) u (boundary_at_stop is_name_byte s stop_ascii)) in
+          let same : drop_while is_name_byte s ≡ r = cc in
+          (qname_from_test _ utf8 e, take_while_split is_name_byte s ∙ ap (λ t. take_while is_name_byte s ++ t) same)
       | inr e ↦ let none : None ≡ Some r = rw e at h in absurd (cc)
     ]
 
-pub after_qname_again : (name r : List ℕ) → IsQName name → run is_name_byte r ≡ [] → behind is_name_byte r ≡ r → after_qname (name ++ r) ≡ Some r
+pub after_qname_again : (name r : List ℕ) → IsQName name → take_while is_name_byte r ≡ [] → drop_while is_name_byte r ≡ r → after_qname (name ++ r) ≡ Some r
 after_qname_again name r q none all =
     let bytes = qname_bytes name q in
-    let front : run is_name_byte (name ++ r) ≡ name = run_append is_name_byte name r bytes ∙ ap (λ t. name ++ t) none ∙ append-nil name in
-    let back : behind is_name_byte (name ++ r) ≡ r = behind_append is_name_byte name r bytes ∙ all in
+    let front : take_while is_name_byte (name ++ r) ≡ name = take_while_append is_name_byte name r bytes ∙ ap (λ t. name ++ t) none ∙ append-nil name in
+    let back : drop_while is_name_byte (name ++ r) ≡ r = drop_while_append is_name_byte name r bytes ∙ all in
     rw (front, test_from_qname name q, back) refl
 
 -- a run of bytes of names is text
-pub name_run_utf8 : (s : List ℕ) → IsUtf8 s → IsUtf8 (run is_name_byte s)
-name_run_utf8 s u = subst IsUtf8 (run_is is_name_byte s) (IsUtf8-take s (prefix_len is_name_byte s) u (boundary_at_stop is_name_byte s stop_ascii))
+pub name_run_utf8 : (s : List ℕ) → IsUtf8 s → IsUtf8 (take_while is_name_byte s)
+name_run_utf8 s u = subst IsUtf8 (take_while_is is_name_byte s) (IsUtf8-take s (prefix_len is_name_byte s) u (boundary_at_stop is_name_byte s stop_ascii))
 
-pub after_ncname_takes : (s r : List ℕ) → IsUtf8 s → after_ncname s ≡ Some r → IsNCName (run is_name_byte s) × (s ≡ run is_name_byte s ++ r)
+pub after_ncname_takes : (s r : List ℕ) → IsUtf8 s → after_ncname s ≡ Some r → IsNCName (take_while is_name_byte s) × (s ≡ take_while is_name_byte s ++ r)
 after_ncname_takes s r u h =
-    elim (cases_Bool (are_ncname_chars (chars (run is_name_byte s)))) [
+    elim (cases_Bool (are_ncname_chars (chars (take_while is_name_byte s)))) [
       | inl e ↦
-          let rest : Some (behind is_name_byte s) ≡ Some r = rw e at h in
-          let same : behind is_name_byte s ≡ r = cc in
-          (ncname_from_test _ (name_run_utf8 s u) e, run_split is_name_byte s ∙ ap (λ t. run is_name_byte s ++ t) same)
+          let rest : Some (drop_while is_name_byte s) ≡ Some r = rw e at h in
+          let same : drop_while is_name_byte s ≡ r = cc in
+          (ncname_from_test _ (name_run_utf8 s u) e, take_while_split is_name_byte s ∙ ap (λ t. take_while is_name_byte s ++ t) same)
       | inr e ↦ let none : None ≡ Some r = rw e at h in absurd (cc)
     ]
 
-pub after_ncname_again : (name r : List ℕ) → IsNCName name → run is_name_byte r ≡ [] → behind is_name_byte r ≡ r → after_ncname (name ++ r) ≡ Some r
+pub after_ncname_again : (name r : List ℕ) → IsNCName name → take_while is_name_byte r ≡ [] → drop_while is_name_byte r ≡ r → after_ncname (name ++ r) ≡ Some r
 after_ncname_again name r q none all =
     let bytes = ncname_passes name q in
-    let front : run is_name_byte (name ++ r) ≡ name = run_append is_name_byte name r bytes ∙ ap (λ t. name ++ t) none ∙ append-nil name in
-    let back : behind is_name_byte (name ++ r) ≡ r = behind_append is_name_byte name r bytes ∙ all in
+    let front : take_while is_name_byte (name ++ r) ≡ name = take_while_append is_name_byte name r bytes ∙ ap (λ t. name ++ t) none ∙ append-nil name in
+    let back : drop_while is_name_byte (name ++ r) ≡ r = drop_while_append is_name_byte name r bytes ∙ all in
     rw (front, test_from_ncname name q, back) refl
 
 pub space_no_name : (b : ℕ) → is_space b ≡ true → is_name_byte b ≡ false
 space_no_name b h = grind (arith, nat_tests)
 
-pub stops_name : (blank close : List ℕ) → IsBlank blank → run is_name_byte close ≡ [] → behind is_name_byte close ≡ close → (run is_name_byte (blank ++ close) ≡ []) × (behind is_name_byte (blank ++ close) ≡ blank ++ close)
+pub stops_name : (blank close : List ℕ) → IsBlank blank → take_while is_name_byte close ≡ [] → drop_while is_name_byte close ≡ close → (take_while is_name_byte (blank ++ close) ≡ []) × (drop_while is_name_byte (blank ++ close) ≡ blank ++ close)
 stops_name [] close h none all = (none, all)
 stops_name (b ∷ bs) close h none all =
     let e : is_name_byte b ≡ false = space_no_name b (and_parts _ _ h).0 in
     (rw e refl, rw e refl)
 
 -- after the name and the white space of a tag stands its close
-pub tag_again : (name blank close : List ℕ) → IsQName name → IsBlank blank → run is_name_byte close ≡ [] → behind is_name_byte close ≡ close → behind is_space close ≡ close → (after_qname (name ++ (blank ++ close)) ≡ Some (blank ++ close)) × (behind is_space (blank ++ close) ≡ close)
-tag_again name blank close q b none all solid =
+pub name_in_tag_again : (name blank close : List ℕ) → IsQName name → IsBlank blank → take_while is_name_byte close ≡ [] → drop_while is_name_byte close ≡ close → drop_while is_space close ≡ close → (after_qname (name ++ (blank ++ close)) ≡ Some (blank ++ close)) × (drop_while is_space (blank ++ close) ≡ close)
+name_in_tag_again name blank close q b none all solid =
     let stops = stops_name blank close b none all in
-    (after_qname_again name (blank ++ close) q stops.0 stops.1, behind_append is_space blank close b ∙ solid)
+    (after_qname_again name (blank ++ close) q stops.0 stops.1, drop_while_append is_space blank close b ∙ solid)

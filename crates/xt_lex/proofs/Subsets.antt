@@ -6,13 +6,13 @@ use Rattle.std.specs.List.{list_all}
 use Rattle.xt_spec.specs.Tag.{IsQuote}
 use Rattle.xt_spec.specs.Markup.{begins, lacks}
 use Rattle.xt_spec.specs.Doctype.{SubsetPart, literal_part, comment_part, pi_part, other_part, subset_part_text, subset_text, is_quote_or_end, IsSubsetPart, AreSubsetParts, IsSubset}
-use Rattle.xt_lex.specs.Scan.{◌>>=◌, maybe, run, behind, after, after_all, cut, quoted, many_in, many, after_first, after_less, after_marked, is_plain_in_subset, after_subset_part}
+use Rattle.xt_lex.specs.Scan.{◌>>=◌, maybe, take_while, drop_while, after, after_all, cut, quoted, many_in, many, after_first, after_less, after_marked, is_plain_in_subset, after_subset_part}
 use Rattle.xt_lex.proofs.Attributes.{longer}
 use Rattle.xt_lex.proofs.Cuts.{after_all_takes, cut_takes, cut_fresh_again, lacks_from_fresh, Stays, fresh_from_lacks, no_after, after_begins, begins_longer}
 use Rattle.xt_lex.proofs.Quotes.{quoted_takes, quoted_again}
 use Rattle.xt_lex.proofs.Instructions.{stays_end}
 use Rattle.xt_lex.proofs.Many.{Shrinks, many_step, many_stop}
-use Rattle.xt_lex.proofs.StepLemmas.{bind_some, run_split, after_takes}
+use Rattle.xt_lex.proofs.StepLemmas.{bind_some, take_while_split, after_takes}
 
 -- ---- up to the first place of a needle
 
@@ -224,7 +224,7 @@ plain_step : (b : ℕ) (bs : List ℕ) → is_plain_in_subset b ≡ true → aft
 plain_step b bs e = rw e refl
 
 -- plain bytes in front count nothing
-pub many_plain : (s : List ℕ) → many after_subset_part (behind is_plain_in_subset s) ≡ many after_subset_part s
+pub many_plain : (s : List ℕ) → many after_subset_part (drop_while is_plain_in_subset s) ≡ many after_subset_part s
 many_plain [] = refl
 many_plain (b ∷ bs) =
     elim (cases_Bool (is_plain_in_subset b)) [
@@ -232,11 +232,11 @@ many_plain (b ∷ bs) =
       | inr e ↦ rw e refl
     ]
 
-not_stuck : (b : ℕ) (bs : List ℕ) → behind is_plain_in_subset bs ≡ b ∷ bs → ⊥
-not_stuck b bs e = omega (arith, ap length e, ap length (run_split is_plain_in_subset bs), length-append (run is_plain_in_subset bs) (behind is_plain_in_subset bs))
+not_stuck : (b : ℕ) (bs : List ℕ) → drop_while is_plain_in_subset bs ≡ b ∷ bs → ⊥
+not_stuck b bs e = omega (arith, ap length e, ap length (take_while_split is_plain_in_subset bs), length-append (take_while is_plain_in_subset bs) (drop_while is_plain_in_subset bs))
 
 -- where no plain byte stands in front, the code's step is a part
-pub marked_is : (s : List ℕ) → behind is_plain_in_subset s ≡ s → after_marked s ≡ after_subset_part s
+pub marked_is : (s : List ℕ) → drop_while is_plain_in_subset s ≡ s → after_marked s ≡ after_subset_part s
 unfolding after_marked
 marked_is [] at = refl
 marked_is (b ∷ bs) at =

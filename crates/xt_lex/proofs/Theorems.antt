@@ -26,11 +26,11 @@ pub use Rattle.xt_lex.proofs.Texts.{spells_utf8, front_boundary}
 pub use Rattle.xt_lex.proofs.Unique.{attribute_unique, no_attribute_at_end, name_unique, tag_name_ends, end_tag_name_ends, tag_unique, stands_unique, names_no_entity}
 pub use Rattle.xt_lex.proofs.Cuts.{Stays, cut_behind, cut_found, cut_fresh_again, cut_missed, fresh_from_lacks}
 pub use Rattle.xt_lex.proofs.DataLemmas.{drop_longer}
-pub use Rattle.xt_lex.proofs.Fronts.{delimited_begins, kinds, not_data, plain_bytes}
+pub use Rattle.xt_lex.proofs.Fronts.{markup_begins, kinds, not_data, plain_bytes}
 pub use Rattle.xt_lex.proofs.NameLemmas.{ncname_passes, qname_bytes, qname_nonempty}
 pub use Rattle.xt_lex.proofs.Numbers.{number_grows}
-pub use Rattle.xt_lex.proofs.Runs.{after_is, behind_is, boundary_at_stop, boundary_behind, boundary_behind_or_start, byte_len, hexadecimal_ascii, run_is, space_ascii}
+pub use Rattle.xt_lex.proofs.Runs.{after_is, drop_while_is, boundary_at_stop, boundary_behind, boundary_behind_or_start, byte_len, hexadecimal_ascii, take_while_is, space_ascii}
 pub use Rattle.xt_lex.proofs.Spelled.{plain_is_ncname}
 pub use Rattle.xt_lex.proofs.Spelling.{bytes_lack, encode_joined, list_all_behind, list_all_joined, list_all_weaker, spelt_char, spelt_joined}
-pub use Rattle.xt_lex.proofs.StepLemmas.{after_takes, behind_append, bind_some, run_append, run_passes, run_split, space_no_name, utf8_behind}
+pub use Rattle.xt_lex.proofs.StepLemmas.{after_takes, drop_while_append, bind_some, take_while_append, take_while_passes, take_while_split, space_no_name, utf8_behind}
 pub use Rattle.xt_lex.proofs.Utf8.{ascii, char_scalar}

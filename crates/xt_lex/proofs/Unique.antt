@@ -10,16 +10,16 @@ use Rattle.xt_spec.specs.Tag.{IsBlank, Attribute, attribute_text, IsAttribute, T
 use Rattle.xt_spec.specs.Token.{char_ref, entity_ref}
 use Rattle.xt_lex.specs.NameTest.{is_name_byte}
 use Rattle.xt_lex.specs.Place.{EndsName, EndsTag}
-use Rattle.xt_lex.specs.Scan.{run, behind, after_space, Rests, attribute_rests}
+use Rattle.xt_lex.specs.Scan.{take_while, drop_while, after_space, Rests, attribute_rests}
 use Rattle.xt_lex.proofs.Attributes.{rests_of, rests_again, rests_stop, attribute_begins}
 use Rattle.xt_lex.proofs.Places.{name_run}
 use Rattle.xt_lex.proofs.References.{numbered_again, reference_again, char_ref_again, pair_parts}
-use Rattle.xt_lex.proofs.StepLemmas.{run_append, space_no_name}
+use Rattle.xt_lex.proofs.StepLemmas.{take_while_append, space_no_name}
 use Rattle.xt_lex.proofs.Tags.{joined}
 
 pub name_unique : (a b r s : List ℕ) → IsQName a → IsQName b → EndsName r → EndsName s → a ++ r ≡ b ++ s → (a ≡ b) × (r ≡ s)
 name_unique a b r s p q x y e =
-    let same : a ≡ b = sym (name_run a r p x) ∙ ap (run is_name_byte) e ∙ name_run b s q y in
+    let same : a ≡ b = sym (name_run a r p x) ∙ ap (take_while is_name_byte) e ∙ name_run b s q y in
     (same, append_cancel_left a r s (e ∙ ap (λ t. t ++ s) (sym same)))
 
 attribute_same : (s n e q s' n' e' q' : List ℕ) → s ≡ s' → n ≡ n' → e ≡ e' → q ≡ q' → ◌≡◌ {A = Attribute} (record { space = s; name = n; equals = e; quoted = q }) (record { space = s'; name = n'; equals = e'; quoted = q' })
@@ -48,7 +48,7 @@ attribute_unique a b r s p q e =
     (attribute_same a.space a.name a.equals a.quoted b.space b.name b.equals b.quoted space name equals quoted, rests.3)
 
 -- what ends a tag begins no name, and no white space
-tag_end : (ending r : List ℕ) → EndsTag ending → (run is_name_byte (ending ++ r) ≡ []) × (behind is_space (ending ++ r) ≡ ending ++ r) × (after_space (ending ++ r) ≡ None) × (run is_space (ending ++ r) ≡ []) × EndsName (ending ++ r)
+tag_end : (ending r : List ℕ) → EndsTag ending → (take_while is_name_byte (ending ++ r) ≡ []) × (drop_while is_space (ending ++ r) ≡ ending ++ r) × (after_space (ending ++ r) ≡ None) × (take_while is_space (ending ++ r) ≡ []) × EndsName (ending ++ r)
 tag_end [] r h = absurd h
 tag_end (b ∷ bs) r (inl e) =
     let name : is_name_byte b ≡ false = rw e refl in
@@ -106,10 +106,10 @@ end_tag_name_ends blank r b = blank_ends blank (codes ">" ++ r) b refl
 
 blank_unique : (x y e f : List ℕ) → IsBlank x → IsBlank y → EndsTag e → EndsTag f → x ++ e ≡ y ++ f → (x ≡ y) × (e ≡ f)
 blank_unique x y e f p q a b same =
-    let stop = λ (t : List ℕ) (ends : EndsTag t). ap (run is_space) (sym (append-nil t)) ∙ (tag_end t [] ends).3 in
-    let left : run is_space (x ++ e) ≡ x = run_append is_space x e p ∙ ap (λ t. x ++ t) (stop e a) ∙ append-nil x in
-    let right : run is_space (y ++ f) ≡ y = run_append is_space y f q ∙ ap (λ t. y ++ t) (stop f b) ∙ append-nil y in
-    let blank : x ≡ y = sym left ∙ ap (run is_space) same ∙ right in
+    let stop = λ (t : List ℕ) (ends : EndsTag t). ap (take_while is_space) (sym (append-nil t)) ∙ (tag_end t [] ends).3 in
+    let left : take_while is_space (x ++ e) ≡ x = take_while_append is_space x e p ∙ ap (λ t. x ++ t) (stop e a) ∙ append-nil x in
+    let right : take_while is_space (y ++ f) ≡ y = take_while_append is_space y f q ∙ ap (λ t. y ++ t) (stop f b) ∙ append-nil y in
+    let blank : x ≡ y = sym left ∙ ap (take_while is_space) same ∙ right in
     (blank, append_cancel_left x e f (same ∙ ap (λ t. t ++ f) (sym blank)))
 
 tag_same : (n : List ℕ) (p : List Attribute) (b m : List ℕ) (q : List Attribute) (c : List ℕ) → n ≡ m → p ≡ q → b ≡ c → ◌≡◌ {A = Tag} (record { name = n; attributes = p; blank = b }) (record { name = m; attributes = q; blank = c })

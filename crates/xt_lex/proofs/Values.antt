@@ -11,11 +11,11 @@ use Rattle.xt_spec.specs.Char.{is_space}
 use Rattle.xt_spec.specs.Name.{IsSpeltBy}
 use Rattle.xt_spec.specs.Tag.{IsReference, is_value_char, IsValuePart, IsQuote, IsAttValue}
 use Rattle.xt_spec.specs.Token.{TokenKind, char_ref, entity_ref}
-use Rattle.xt_lex.specs.Scan.{run, behind, after, reference, is_found, is_no_ampersand, references_stand, is_attr_char, is_value, after_value, after_quoted}
+use Rattle.xt_lex.specs.Scan.{take_while, drop_while, after, reference, is_found, is_no_ampersand, references_stand, is_attr_char, is_value, after_value, after_quoted}
 use Rattle.xt_lex.proofs.References.{IsFound, is_inner, reference_takes, reference_again, found_inner, found_spelt}
-use Rattle.xt_lex.proofs.Runs.{run_is, boundary_at_stop}
+use Rattle.xt_lex.proofs.Runs.{take_while_is, boundary_at_stop}
 use Rattle.xt_lex.proofs.Spelling.{list_all_weaker, list_all_joined, list_all_behind, spelt_joined, spelt_char, strip, bytes_lack}
-use Rattle.xt_lex.proofs.StepLemmas.{run_split, run_passes, run_append, behind_append, after_takes, utf8_behind}
+use Rattle.xt_lex.proofs.StepLemmas.{take_while_split, take_while_passes, take_while_append, drop_while_append, after_takes, utf8_behind}
 use Rattle.xt_lex.proofs.Utf8.{char_scalar, ascii}
 use Rattle.xt_scan.proofs.Theorems.{quote_small}
 
@@ -38,8 +38,8 @@ no_ampersand_stand (x ∷ xs) r h =
     rw first (no_ampersand_stand xs r both.1)
 
 -- what stands before the first `&` counts nothing
-pub behind_stand : (s : List ℕ) → references_stand (behind is_no_ampersand s) ≡ references_stand s
-behind_stand s = sym (ap references_stand (run_split is_no_ampersand s) ∙ no_ampersand_stand (run is_no_ampersand s) (behind is_no_ampersand s) (run_passes is_no_ampersand s))
+pub behind_stand : (s : List ℕ) → references_stand (drop_while is_no_ampersand s) ≡ references_stand s
+behind_stand s = sym (ap references_stand (take_while_split is_no_ampersand s) ∙ no_ampersand_stand (take_while is_no_ampersand s) (drop_while is_no_ampersand s) (take_while_passes is_no_ampersand s))
 
 inner_no_ampersand : (b : ℕ) → is_inner b ≡ true → is_no_ampersand b ≡ true
 inner_no_ampersand b h = grind (arith, nat_tests)
@@ -65,27 +65,27 @@ reference_shorter s r k u h =
     let inner = found_inner k found.0 found.2 in
     omega (arith, ap length found.1, length-append found.0 r, ap length inner.1)
 
-pub stuck_stand : (s : List ℕ) → behind is_no_ampersand s ≡ s → s ≢ [] → reference s ≡ None → references_stand s ≡ false
+pub stuck_stand : (s : List ℕ) → drop_while is_no_ampersand s ≡ s → s ≢ [] → reference s ≡ None → references_stand s ≡ false
 stuck_stand [] at some h = absurd (some refl)
 stuck_stand (b ∷ bs) at some h =
     elim (cases_Bool (eqb b 38)) [
       | inl e ↦ rw (e, h) refl
       | inr e ↦
-          let passed : behind is_no_ampersand bs ≡ b ∷ bs = rw e at at in
-          absurd (omega (arith, ap length passed, ap length (run_split is_no_ampersand bs), length-append (run is_no_ampersand bs) (behind is_no_ampersand bs)))
+          let passed : drop_while is_no_ampersand bs ≡ b ∷ bs = rw e at at in
+          absurd (omega (arith, ap length passed, ap length (take_while_split is_no_ampersand bs), length-append (take_while is_no_ampersand bs) (drop_while is_no_ampersand bs)))
     ]
 
 pub nonempty : (s : List ℕ) (b : Bool) → b ≡ eqb (length s) 0 → b ≡ false → s ≢ []
 nonempty s b e isnt = λ is. both_ways b isnt (e ∙ ap (λ s. eqb (length s) 0) is)
 
-pub behind_shorter : (p : ℕ → Bool) (s : List ℕ) → length (behind p s) ≤ length s
-behind_shorter p s = omega (arith, ap length (run_split p s), length-append (run p s) (behind p s))
+pub drop_while_shorter : (p : ℕ → Bool) (s : List ℕ) → length (drop_while p s) ≤ length s
+drop_while_shorter p s = omega (arith, ap length (take_while_split p s), length-append (take_while p s) (drop_while p s))
 
-pub behind_twice : (p : ℕ → Bool) (s : List ℕ) → behind p (behind p s) ≡ behind p s
-behind_twice p [] = refl
-behind_twice p (x ∷ xs) =
+pub drop_while_twice : (p : ℕ → Bool) (s : List ℕ) → drop_while p (drop_while p s) ≡ drop_while p s
+drop_while_twice p [] = refl
+drop_while_twice p (x ∷ xs) =
     elim (cases_Bool (p x)) [
-      | inl e ↦ rw e (behind_twice p xs)
+      | inl e ↦ rw e (drop_while_twice p xs)
       | inr e ↦ rw (e, e) refl
     ]
 
@@ -214,18 +214,18 @@ value_passes q parts h =
     let read : chars (concat parts) ≡ spelt.0 = ap chars (sym spelt.1) ∙ chars-encodes spelt.0 (attr_scalars spelt.0 spelt.2) in
     and_from _ _ (ap (λ cs. list_all is_attr_char cs) read ∙ spelt.2) (value_stands q parts h)
 
-value_takes : (q : ℕ) (s r : List ℕ) → IsUtf8 s → q < 128 → after_value q s ≡ Some r → IsMadeOf q (run (λ b. not (eqb b q)) s) × (s ≡ run (λ b. not (eqb b q)) s ++ (q ∷ r))
+value_takes : (q : ℕ) (s r : List ℕ) → IsUtf8 s → q < 128 → after_value q s ≡ Some r → IsMadeOf q (take_while (λ b. not (eqb b q)) s) × (s ≡ take_while (λ b. not (eqb b q)) s ++ (q ∷ r))
 value_takes q s r u small h =
     let test = λ (b : ℕ). not (eqb b q) in
-    let front = run test s in
+    let front = take_while test s in
     elim (cases_Bool (is_value front)) [
       | inl f ↦
-          let rest : after q (behind test s) ≡ Some r = rw f at h in
+          let rest : after q (drop_while test s) ≡ Some r = rw f at h in
           let ends : (b : ℕ) → test b ≡ false → b < 128 = λ b e. omega (arith, eqb-true b q (not-false _ e)) in
-          let utf8 : IsUtf8 front = subst IsUtf8 (run_is test s) (IsUtf8-take s (prefix_len test s) u (boundary_at_stop test s ends)) in
+          let utf8 : IsUtf8 front = subst IsUtf8 (take_while_is test s) (IsUtf8-take s (prefix_len test s) u (boundary_at_stop test s ends)) in
           let both = and_parts _ _ f in
-          let made = value_parts q (length front) (chars front) front small (omega arith) (encodes-chars front utf8) both.0 (run_passes test s) both.1 in
-          (made, run_split test s ∙ ap (λ t. front ++ t) (after_takes q (behind test s) r rest))
+          let made = value_parts q (length front) (chars front) front small (omega arith) (encodes-chars front utf8) both.0 (take_while_passes test s) both.1 in
+          (made, take_while_split test s ∙ ap (λ t. front ++ t) (after_takes q (drop_while test s) r rest))
       | inr f ↦ let none : None ≡ Some r = rw f at h in absurd (cc)
     ]
 
@@ -241,7 +241,7 @@ quoted_takes (b ∷ bs) r u h =
           let quote = quote_cases b e in
           let small = quote_small b quote in
           let found = value_takes b bs r (utf8_behind b bs small u) small rest in
-          let value = run (λ c. not (eqb c b)) bs in
+          let value = take_while (λ c. not (eqb c b)) bs in
           ((b ∷ value) ++ b ∷ [], (b, found.0.0, quote, found.0.1, ap (λ t. (b ∷ t) ++ b ∷ []) found.0.2), ap (λ t. b ∷ t) (found.1 ∙ sym (append_assoc value (b ∷ []) r)))
       | inr e ↦ let none : None ≡ Some r = rw e at h in absurd (cc)
     ]
@@ -256,11 +256,11 @@ value_again : (q : ℕ) (v r : List ℕ) → is_value v ≡ true → list_all (�
 value_again q v r passes lacks =
     let test = λ (b : ℕ). not (eqb b q) in
     let same : eqb q q ≡ true = eq-eqb q q refl in
-    let front : run test (v ++ (q ∷ r)) ≡ v = run_append test v (q ∷ r) lacks ∙ ap (λ t. v ++ t) (rw same refl) ∙ append-nil v in
-    let back : behind test (v ++ (q ∷ r)) ≡ q ∷ r = behind_append test v (q ∷ r) lacks ∙ rw same refl in
+    let front : take_while test (v ++ (q ∷ r)) ≡ v = take_while_append test v (q ∷ r) lacks ∙ ap (λ t. v ++ t) (rw same refl) ∙ append-nil v in
+    let back : drop_while test (v ++ (q ∷ r)) ≡ q ∷ r = drop_while_append test v (q ∷ r) lacks ∙ rw same refl in
     rw front (rw passes (rw back (rw same refl)))
 
-quote_begins : (q : ℕ) (x r : List ℕ) → IsQuote q → after_value q x ≡ Some r → (after_quoted (q ∷ x) ≡ Some r) × (behind is_space (q ∷ x) ≡ q ∷ x)
+quote_begins : (q : ℕ) (x r : List ℕ) → IsQuote q → after_value q x ≡ Some r → (after_quoted (q ∷ x) ≡ Some r) × (drop_while is_space (q ∷ x) ≡ q ∷ x)
 quote_begins q x r (inl e) found =
     let test : (eqb q 34 || eqb q 39) ≡ true = rw e refl in
     let solid : is_space q ≡ false = rw e refl in
@@ -270,16 +270,16 @@ quote_begins q x r (inr e) found =
     let solid : is_space q ≡ false = rw e refl in
     (rw test found, rw solid refl)
 
-pub quoted_again : (p r : List ℕ) → IsAttValue p → (after_quoted (p ++ r) ≡ Some r) × (behind is_space (p ++ r) ≡ p ++ r)
+pub quoted_again : (p r : List ℕ) → IsAttValue p → (after_quoted (p ++ r) ≡ Some r) × (drop_while is_space (p ++ r) ≡ p ++ r)
 quoted_again p r (q, parts, is, made, split) =
     let whole : p ++ r ≡ q ∷ (concat parts ++ (q ∷ r)) = ap (λ t. t ++ r) split ∙ ap (λ t. q ∷ t) (append_assoc (concat parts) (q ∷ []) r) in
     let found = value_again q (concat parts) r (value_passes q parts made) (value_lacks q parts is made) in
-    subst (λ t. (after_quoted t ≡ Some r) × (behind is_space t ≡ t)) (sym whole) (quote_begins q (concat parts ++ (q ∷ r)) r is found)
+    subst (λ t. (after_quoted t ≡ Some r) × (drop_while is_space t ≡ t)) (sym whole) (quote_begins q (concat parts ++ (q ∷ r)) r is found)
 
 value_shorter : (q : ℕ) (s r : List ℕ) → after_value q s ≡ Some r → length r ≤ length s
 value_shorter q s r h =
-    elim (cases_Bool (is_value (run (λ b. not (eqb b q)) s))) [
-      | inl f ↦ let rest : after q (behind (λ b. not (eqb b q)) s) ≡ Some r = rw f at h in omega (arith, ap length (after_takes q (behind (λ b. not (eqb b q)) s) r rest), behind_shorter (λ b. not (eqb b q)) s)
+    elim (cases_Bool (is_value (take_while (λ b. not (eqb b q)) s))) [
+      | inl f ↦ let rest : after q (drop_while (λ b. not (eqb b q)) s) ≡ Some r = rw f at h in omega (arith, ap length (after_takes q (drop_while (λ b. not (eqb b q)) s) r rest), drop_while_shorter (λ b. not (eqb b q)) s)
       | inr f ↦ let none : None ≡ Some r = rw f at h in absurd (cc)
     ]
 

@@ -9,7 +9,7 @@ use Rattle.xt_spec.specs.Doctype.{is_pubid_char, is_quote_or_end}
 use Rattle.xt_spec.specs.Markup.{is_reserved}
 use Rattle.xt_spec.specs.Token.{TokenKind, start_tag, empty_tag, end_tag, char_ref, entity_ref, cdata_section, comment, pi, declaration, doctype}
 use Rattle.xt_scan.specs.Form.{read_quoted}
-pub use Rattle.xt_scan.specs.Step.{◌>>=◌, run, behind, after_all}
+pub use Rattle.xt_scan.specs.Step.{◌>>=◌, take_while, drop_while, after_all}
 use Rattle.xt_lex.specs.NameTest.{is_name_byte, qname}
 use Rattle.xt_lex.specs.XmlDecl.{declared_values}
 
@@ -27,15 +27,15 @@ after c [] = None
 after c (b ∷ bs) = if b == c then Some bs else None
 
 abbrev pub after_qname : List ℕ → Option (List ℕ)
-after_qname text = if qname (run is_name_byte text) then Some (behind is_name_byte text) else None
+after_qname text = if qname (take_while is_name_byte text) then Some (drop_while is_name_byte text) else None
 
 abbrev pub after_ncname : List ℕ → Option (List ℕ)
-after_ncname text = if are_ncname_chars (chars (run is_name_byte text)) then Some (behind is_name_byte text) else None
+after_ncname text = if are_ncname_chars (chars (take_while is_name_byte text)) then Some (drop_while is_name_byte text) else None
 
 -- what follows white space, of which there is some
 abbrev pub after_space : List ℕ → Option (List ℕ)
 after_space [] = None
-after_space (b ∷ bs) = if is_space b then Some (behind is_space bs) else None
+after_space (b ∷ bs) = if is_space b then Some (drop_while is_space bs) else None
 
 -- the Char whose number digits spell in a base
 abbrev pub named : ℕ → List ℕ → Option ℕ
@@ -43,7 +43,7 @@ named base digits = if is_char (number_behind base 0 digits) then Some (number_b
 
 -- the Char that digits name, and what follows the `;` behind them
 unfoldable pub after_number : ℕ → (ℕ → Bool) → List ℕ → Option (ℕ × List ℕ)
-after_number base is_digit text = named base (run is_digit text) >>= λ c. after 0x3B (behind is_digit text) >>= λ r. Some (c, r)
+after_number base is_digit text = named base (take_while is_digit text) >>= λ c. after 0x3B (drop_while is_digit text) >>= λ r. Some (c, r)
 
 -- behind `&#`: the Char of the reference, and what follows it
 unfoldable pub after_char_ref : List ℕ → Option (ℕ × List ℕ)
@@ -86,7 +86,7 @@ is_value text = list_all is_attr_char (chars text) && references_stand text
 
 -- what follows a value and its second quote q
 abbrev pub after_value : ℕ → List ℕ → Option (List ℕ)
-after_value q text = if is_value (run (λ b. not (b == q)) text) then after q (behind (λ b. not (b == q)) text) else None
+after_value q text = if is_value (take_while (λ b. not (b == q)) text) then after q (drop_while (λ b. not (b == q)) text) else None
 
 -- what follows a value in quotes
 abbrev pub after_quoted : List ℕ → Option (List ℕ)
@@ -99,8 +99,8 @@ Rests = List ℕ × List ℕ × List ℕ × List ℕ
 
 unfoldable pub attribute_rests : List ℕ → Option Rests
 attribute_rests text =
-    after_space text >>= λ name. after_qname name >>= λ behind_name. after 0x3D (behind is_space behind_name)
-    >>= λ equals. after_quoted (behind is_space equals) >>= λ rest. Some (name, behind_name, behind is_space equals, rest)
+    after_space text >>= λ name. after_qname name >>= λ behind_name. after 0x3D (drop_while is_space behind_name)
+    >>= λ equals. after_quoted (drop_while is_space equals) >>= λ rest. Some (name, behind_name, drop_while is_space equals, rest)
 
 -- what follows an attribute and the white space before it
 unfoldable pub attribute : List ℕ → Option (List ℕ)
@@ -121,15 +121,15 @@ open_end (b ∷ bs) = if b == 0x3E then Some (start_tag, bs) else (after 0x2F (b
 
 -- behind the `<` of such a tag
 unfoldable pub open_tag : List ℕ → Option (TokenKind × List ℕ)
-open_tag text = after_qname text >>= λ s. open_end (behind is_space (many attribute s))
+open_tag text = after_qname text >>= λ s. open_end (drop_while is_space (many attribute s))
 
 -- behind the `</` of an end-tag
 unfoldable pub closing_tag : List ℕ → Option (List ℕ)
-closing_tag text = after_qname text >>= λ s. after 0x3E (behind is_space s)
+closing_tag text = after_qname text >>= λ s. after 0x3E (drop_while is_space s)
 
 -- a tag
-unfoldable pub markup : List ℕ → Option (TokenKind × List ℕ)
-markup text = after 0x3C text >>= λ s. maybe (open_tag s) (λ e. closing_tag e >>= λ r. Some (end_tag, r)) (after 0x2F s)
+unfoldable pub tag : List ℕ → Option (TokenKind × List ℕ)
+tag text = after 0x3C text >>= λ s. maybe (open_tag s) (λ e. closing_tag e >>= λ r. Some (end_tag, r)) (after 0x2F s)
 
 -- one byte more before a cut
 abbrev pub longer_by : ℕ → Option (List ℕ × List ℕ) → Option (List ℕ × List ℕ)
@@ -213,7 +213,7 @@ after_subset_part (b ∷ bs) = if is_plain_in_subset b then Some bs else after_m
 
 -- behind `[`: what follows the brackets and optional white space
 abbrev pub after_subset : List ℕ → Option (List ℕ)
-after_subset text = after 0x5D (many after_subset_part text) >>= λ r. Some (behind is_space r)
+after_subset text = after 0x5D (many after_subset_part text) >>= λ r. Some (drop_while is_space r)
 
 -- what follows brackets, where they stand
 unfoldable pub after_brackets : List ℕ → Option (List ℕ)
@@ -222,7 +222,7 @@ after_brackets text = maybe (Some text) after_subset (after 0x5B text)
 -- behind `<!DOCTYPE`
 unfoldable pub doctype_step : List ℕ → Option (TokenKind × List ℕ)
 doctype_step text =
-    after_space text >>= λ n. after_qname n >>= λ e. after_brackets (behind is_space (after_external e)) >>= λ c. after 0x3E c
+    after_space text >>= λ n. after_qname n >>= λ e. after_brackets (drop_while is_space (after_external e)) >>= λ c. after 0x3E c
     >>= λ r. Some (doctype, r)
 
 -- behind `<!`, where no `--` stands
@@ -236,7 +236,7 @@ declared text = maybe (declared_section text) comment_step (after_all (codes "--
 -- what follows the target of a PI
 abbrev pub after_target : List ℕ → Option (List ℕ)
 after_target text =
-    if are_ncname_chars (chars (run is_name_byte text)) && not (is_reserved (run is_name_byte text)) then Some (behind is_name_byte text) else None
+    if are_ncname_chars (chars (take_while is_name_byte text)) && not (is_reserved (take_while is_name_byte text)) then Some (drop_while is_name_byte text) else None
 
 -- behind the target: what follows the end
 unfoldable pub after_data : List ℕ → Option (List ℕ)
@@ -247,19 +247,19 @@ abbrev pub instruction : List ℕ → Option (TokenKind × List ℕ)
 instruction text = after_target text >>= λ s. after_data s >>= λ r. Some (pi, r)
 
 -- behind `<?`: a declaration, where the target is `xml`; else a PI
-unfoldable pub instructed : List ℕ → Option (TokenKind × List ℕ)
-instructed text =
-    if bytes_eq (run is_name_byte text) (codes "xml") then (declared_values.read (behind is_name_byte text) >>= λ x. Some (declaration, x.1)) else instruction text
+unfoldable pub pi_or_declaration : List ℕ → Option (TokenKind × List ℕ)
+pi_or_declaration text =
+    if bytes_eq (take_while is_name_byte text) (codes "xml") then (declared_values.read (drop_while is_name_byte text) >>= λ x. Some (declaration, x.1)) else instruction text
 
 -- a token that begins with `<`, and not with `<!`
-unfoldable pub undeclared : List ℕ → Option (TokenKind × List ℕ)
-undeclared text = maybe (markup text) instructed (after_all (codes "<?") text)
+unfoldable pub tag_or_pi : List ℕ → Option (TokenKind × List ℕ)
+tag_or_pi text = maybe (tag text) pi_or_declaration (after_all (codes "<?") text)
 
 -- a token that begins with `<`
-unfoldable pub angled : List ℕ → Option (TokenKind × List ℕ)
-angled text = maybe (undeclared text) declared (after_all (codes "<!") text)
+unfoldable pub angle_markup : List ℕ → Option (TokenKind × List ℕ)
+angle_markup text = maybe (tag_or_pi text) declared (after_all (codes "<!") text)
 
 -- a token that begins with `<` or `&`
-abbrev pub delimited : List ℕ → Option (TokenKind × List ℕ)
-delimited [] = None
-delimited (b ∷ bs) = if b == 0x3C then angled (b ∷ bs) else (if b == 0x26 then reference (b ∷ bs) else None)
+abbrev pub markup : List ℕ → Option (TokenKind × List ℕ)
+markup [] = None
+markup (b ∷ bs) = if b == 0x3C then angle_markup (b ∷ bs) else (if b == 0x26 then reference (b ∷ bs) else None)

@@ -5,7 +5,7 @@ ghost use Rattle.std.specs.List.{prefix_len, list_all};
 ghost use Rattle.std.specs.Option.{option_copied, IfNone};
 ghost use Rattle.std.specs.Str.{chars, IsCharBoundary};
 ghost use Rattle.xt_lex.specs.Fast.{is_attr_byte};
-ghost use Rattle.xt_lex.specs.Scan.{behind, run, is_value, is_attr_char, references_stand, after_value, after_quoted, attribute_rests, attribute, is_no_ampersand};
+ghost use Rattle.xt_lex.specs.Scan.{drop_while, take_while, is_value, is_attr_char, references_stand, after_value, after_quoted, attribute_rests, attribute, is_no_ampersand};
 ghost use Rattle.xt_lex.specs.Place.{IsAttributeAt, NoAttributeAt};
 
 use crate::chars::{is_char, is_sound_byte};
@@ -38,7 +38,7 @@ fn no_ampersand_len(bytes: &[u8]) -> usize
 
 /// The text from its first `&` on.
 fn at_ampersand(text: &str) -> &str
-    ensures { result.now ≡ behind is_no_ampersand text.now }
+    ensures { result.now ≡ drop_while is_no_ampersand text.now }
 {
     &text[no_ampersand_len(text.as_bytes())..]
 }
@@ -97,8 +97,8 @@ fn value_len(quote: u8, bytes: &[u8]) -> usize
 /// The front without the quote, and what follows it.
 pub(crate) fn split_value(quote: u8, text: &str) -> (&str, &str)
     requires { quote < 128 }
-    ensures value { result.0.now ≡ run (λ b. not (b == quote)) text.now }
-    ensures rest { result.1.now ≡ behind (λ b. not (b == quote)) text.now }
+    ensures value { result.0.now ≡ take_while (λ b. not (b == quote)) text.now }
+    ensures rest { result.1.now ≡ drop_while (λ b. not (b == quote)) text.now }
 {
     text.split_at(value_len(quote, text.as_bytes()))
 }

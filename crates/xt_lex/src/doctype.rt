@@ -6,7 +6,7 @@ ghost use Rattle.std.specs.Option.{option_copied};
 ghost use Rattle.xt_spec.specs.Doctype as spec;
 ghost use Rattle.xt_lex.specs.Fast.{is_ending};
 ghost use Rattle.xt_lex.specs.Kinds.{kind_of};
-ghost use Rattle.xt_lex.specs.Scan.{behind, many, after_system_literal, after_pubid_literal, after_system, after_public, after_external_id, spaced_external_id, after_external, after_first, after_less, after_marked, is_plain_in_subset, after_subset_part, after_subset, after_brackets, doctype_step};
+ghost use Rattle.xt_lex.specs.Scan.{drop_while, many, after_system_literal, after_pubid_literal, after_system, after_public, after_external_id, spaced_external_id, after_external, after_first, after_less, after_marked, is_plain_in_subset, after_subset_part, after_subset, after_brackets, doctype_step};
 
 use crate::data::are_chars;
 use crate::front::{after, after_all, after_qname, after_space, cut};
@@ -145,7 +145,7 @@ fn plain_len(bytes: &[u8]) -> usize
 
 /// The text from its first `]`, quote or `<` on.
 fn at_mark(text: &str) -> &str
-    ensures { result.now ≡ behind is_plain_in_subset text.now }
+    ensures { result.now ≡ drop_while is_plain_in_subset text.now }
 {
     &text[plain_len(text.as_bytes())..]
 }

@@ -5,7 +5,7 @@ ghost use Rattle.std.specs.List.{prefix_len};
 ghost use Rattle.std.specs.Option.{option_copied};
 ghost use Rattle.xt_spec.specs.Char.{is_space};
 ghost use Rattle.xt_lex.specs.Fast.{is_ending};
-ghost use Rattle.xt_lex.specs.Scan.{after_space, run, behind, after, after_all, cut, after_qname, after_ncname};
+ghost use Rattle.xt_lex.specs.Scan.{after_space, take_while, drop_while, after, after_all, cut, after_qname, after_ncname};
 ghost use Rattle.xt_lex.specs.NameTest.{is_name_byte};
 
 use crate::chars::{is_name_byte, is_space};
@@ -61,8 +61,8 @@ pub(crate) fn after_space(text: &str) -> Option<&str>
 
 /// The front that could be a name, and what follows it.
 pub(crate) fn split_name(text: &str) -> (&str, &str)
-    ensures name { result.0.now ≡ run is_name_byte text.now }
-    ensures rest { result.1.now ≡ behind is_name_byte text.now }
+    ensures name { result.0.now ≡ take_while is_name_byte text.now }
+    ensures rest { result.1.now ≡ drop_while is_name_byte text.now }
 {
     text.split_at(name_len(text.as_bytes()))
 }

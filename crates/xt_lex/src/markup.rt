@@ -3,7 +3,7 @@
 ghost use Rattle.std.specs.Prelude.{◌≡◌, option_map, true};
 ghost use Rattle.std.specs.Option.{option_copied};
 ghost use Rattle.xt_spec.specs.Markup.{is_reserved};
-ghost use Rattle.xt_lex.specs.Scan.{after_chars, cdata_step, comment_step, declared_section, declared, after_target, after_data, instruction, instructed, undeclared, angled};
+ghost use Rattle.xt_lex.specs.Scan.{after_chars, cdata_step, comment_step, declared_section, declared, after_target, after_data, instruction, pi_or_declaration, tag_or_pi, angle_markup};
 ghost use Rattle.xt_lex.specs.Kinds.{kind_of};
 ghost use Rattle.xt_lex.specs.Fast.{is_ending};
 
@@ -12,7 +12,7 @@ use crate::declaration::declared_values;
 use crate::doctype::doctype;
 use crate::front::{after, after_all, after_space, cut, split_name};
 use crate::names::is_ncname;
-use crate::tag::markup;
+use crate::tag::tag;
 use crate::token::Kind;
 
 /// What follows Chars and the text that ends them, where it first stands.
@@ -110,9 +110,9 @@ fn instruction(text: &str) -> Option<(Kind, &str)>
 }
 
 /// Behind `<?`: a declaration, where the target is `xml`, or a PI; and what follows it.
-#[tactic(auto, unfolding(crate::specs::Scan::instructed))]
-fn instructed(text: &str) -> Option<(Kind, &str)>
-    ensures { option_map (λ x. (kind_of x.0, x.1.now)) result ≡ instructed text.now }
+#[tactic(auto, unfolding(crate::specs::Scan::pi_or_declaration))]
+fn pi_or_declaration(text: &str) -> Option<(Kind, &str)>
+    ensures { option_map (λ x. (kind_of x.0, x.1.now)) result ≡ pi_or_declaration text.now }
 {
     let (target, rest) = split_name(text);
     if target == "xml" {
@@ -124,23 +124,23 @@ fn instructed(text: &str) -> Option<(Kind, &str)>
 }
 
 /// A token that begins with `<`, and not with `<!`, and what follows it.
-#[tactic(auto, unfolding(crate::specs::Scan::undeclared))]
-fn undeclared(text: &str) -> Option<(Kind, &str)>
-    ensures { option_map (λ x. (kind_of x.0, x.1.now)) result ≡ undeclared text.now }
+#[tactic(auto, unfolding(crate::specs::Scan::tag_or_pi))]
+fn tag_or_pi(text: &str) -> Option<(Kind, &str)>
+    ensures { option_map (λ x. (kind_of x.0, x.1.now)) result ≡ tag_or_pi text.now }
 {
     match after_all("<?", text) {
-        Some(rest) => instructed(rest),
-        None => markup(text),
+        Some(rest) => pi_or_declaration(rest),
+        None => tag(text),
     }
 }
 
 /// A token that begins with `<`, and what follows it.
-#[tactic(auto, unfolding(crate::specs::Scan::angled))]
-pub(crate) fn angled(text: &str) -> Option<(Kind, &str)>
-    ensures { option_map (λ x. (kind_of x.0, x.1.now)) result ≡ angled text.now }
+#[tactic(auto, unfolding(crate::specs::Scan::angle_markup))]
+pub(crate) fn angle_markup(text: &str) -> Option<(Kind, &str)>
+    ensures { option_map (λ x. (kind_of x.0, x.1.now)) result ≡ angle_markup text.now }
 {
     match after_all("<!", text) {
         Some(rest) => declared(rest),
-        None => undeclared(text),
+        None => tag_or_pi(text),
     }
 }

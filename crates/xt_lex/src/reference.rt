@@ -4,7 +4,7 @@ ghost use Rattle.std.specs.Prelude.{◌≡◌, ◌<◌, ◌≤◌, ◌+◌, ◌*
 ghost use Rattle.std.specs.List.{prefix_len};
 ghost use Rattle.xt_spec.specs.Reference as spec;
 ghost use Rattle.xt_spec.specs.Reference.{is_decimal_digit, is_hexadecimal_digit, number_behind, StandsFor};
-ghost use Rattle.xt_lex.specs.Scan.{run, behind, named, after_number, after_char_ref, numbered, reference};
+ghost use Rattle.xt_lex.specs.Scan.{take_while, drop_while, named, after_number, after_char_ref, numbered, reference};
 ghost use Rattle.xt_lex.specs.Kinds.{kind_of};
 
 use crate::chars::is_char;
@@ -79,15 +79,15 @@ fn hexadecimal_len(bytes: &[u8]) -> usize
 }
 
 fn split_decimal(text: &str) -> (&str, &str)
-    ensures digits { result.0.now ≡ run is_decimal_digit text.now }
-    ensures rest { result.1.now ≡ behind is_decimal_digit text.now }
+    ensures digits { result.0.now ≡ take_while is_decimal_digit text.now }
+    ensures rest { result.1.now ≡ drop_while is_decimal_digit text.now }
 {
     text.split_at(decimal_len(text.as_bytes()))
 }
 
 fn split_hexadecimal(text: &str) -> (&str, &str)
-    ensures digits { result.0.now ≡ run is_hexadecimal_digit text.now }
-    ensures rest { result.1.now ≡ behind is_hexadecimal_digit text.now }
+    ensures digits { result.0.now ≡ take_while is_hexadecimal_digit text.now }
+    ensures rest { result.1.now ≡ drop_while is_hexadecimal_digit text.now }
 {
     text.split_at(hexadecimal_len(text.as_bytes()))
 }

@@ -2,7 +2,7 @@
 
 ghost use Rattle.std.specs.Prelude.{◌≡◌, option_map};
 ghost use Rattle.std.specs.Option.{option_copied};
-ghost use Rattle.xt_lex.specs.Scan.{attribute, many, open_end, open_tag, closing_tag, markup};
+ghost use Rattle.xt_lex.specs.Scan.{attribute, many, open_end, open_tag, closing_tag, tag};
 ghost use Rattle.xt_lex.specs.Kinds.{kind_of};
 
 use crate::attribute::after_attribute;
@@ -53,9 +53,9 @@ fn end_tag(text: &str) -> Option<&str>
 }
 
 /// A tag, and what follows it.
-#[tactic(auto, unfolding(crate::specs::Scan::markup))]
-pub(crate) fn markup(text: &str) -> Option<(Kind, &str)>
-    ensures { option_map (λ x. (kind_of x.0, x.1.now)) result ≡ markup text.now }
+#[tactic(auto, unfolding(crate::specs::Scan::tag))]
+pub(crate) fn tag(text: &str) -> Option<(Kind, &str)>
+    ensures { option_map (λ x. (kind_of x.0, x.1.now)) result ≡ tag text.now }
 {
     let rest = after('<', text)?;
     match after('/', rest) {

@@ -5,10 +5,10 @@ ghost use Rattle.std.specs.Str.{IsCharBoundary};
 ghost use Rattle.xt_spec.specs.Token.{NoFront, IsLongestFront};
 ghost use Rattle.xt_lex.specs.Data.{IsDelimiter};
 ghost use Rattle.xt_lex.specs.Kinds.{kind_of};
-ghost use Rattle.xt_lex.specs.Scan.{delimited};
+ghost use Rattle.xt_lex.specs.Scan.{markup};
 
 use crate::data::data_len;
-use crate::markup::angled;
+use crate::markup::angle_markup;
 use crate::reference::reference;
 
 /// Where a part of a text begins and ends, in bytes.
@@ -63,11 +63,11 @@ fn is_delimiter(b: u8) -> bool
 }
 
 /// A token that begins with `<` or `&`, and what follows it.
-fn delimited(text: &str) -> Option<(Kind, &str)>
-    ensures { option_map (λ x. (kind_of x.0, x.1.now)) result ≡ delimited text.now }
+fn markup(text: &str) -> Option<(Kind, &str)>
+    ensures { option_map (λ x. (kind_of x.0, x.1.now)) result ≡ markup text.now }
 {
     match text.as_bytes() {
-        [b'<', ..] => angled(text),
+        [b'<', ..] => angle_markup(text),
         [b'&', ..] => reference(text),
         _ => None,
     }
@@ -79,7 +79,7 @@ fn front_token(text: &str) -> Option<(Kind, usize)>
     ensures { MatchOption result (NoFront text.now) (λ x. IsLongestFront text.now (kind_of x.0) x.1) }
 {
     if is_delimiter(text.as_bytes()[0]) {
-        return match delimited(text) {
+        return match markup(text) {
             Some((kind, rest)) => Some((kind, text.len() - rest.len())),
             None => None,
         };

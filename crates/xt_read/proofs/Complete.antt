@@ -217,14 +217,14 @@ fed_opened s (leaf comment_item t rest) = fed_opened (with_item s (leaf_item com
 fed_opened s (leaf pi_item t rest) = fed_opened (with_item s (leaf_item pi_item t)) rest
 fed_opened s (leaf gap t rest) = fed_opened (with_gap s t) rest
 
-behind_twice : (stage : Option Stage) → behind_element (behind_element stage) ≡ behind_element stage
-behind_twice None = refl
-behind_twice (Some stage) = refl
+drop_while_twice : (stage : Option Stage) → behind_element (behind_element stage) ≡ behind_element stage
+drop_while_twice None = refl
+drop_while_twice (Some stage) = refl
 
 -- content leaves the stage, where an element does
 content_stage : (level : ℕ) (s : State) (items : Items) → IsContent level items → behind_element s.stage ≡ s.stage → (fed s items).stage ≡ s.stage
 content_stage level s nil is stays = refl
-content_stage level s (element o k c rest) is stays = content_stage level (with_element s o k c) rest is.2 (behind_twice s.stage) ∙ stays
+content_stage level s (element o k c rest) is stays = content_stage level (with_element s o k c) rest is.2 (drop_while_twice s.stage) ∙ stays
 content_stage level s (leaf text_item t rest) is stays = content_stage level (with_more s t) rest is.2 stays
 content_stage level s (leaf reference_item t rest) is stays = content_stage level (with_item s (leaf_item reference_item t)) rest is.2 stays
 content_stage level s (leaf comment_item t rest) is stays = content_stage level (with_item s (leaf_item comment_item t)) rest is.1 stays
@@ -320,7 +320,7 @@ element_reads opened stage items text o k (Some c) after u is content first inne
     let steps : step s (start_tok o el.tag.name names) ≡ Some begun =
     when_true (has_room s && are_distinct names) _ _ (both_true (has_room s) (are_distinct names) (room opened stage items text is.within first) el.unique) in
     let f = fed begun k in
-    let stays : f.stage ≡ behind_element stage = content_stage (suc (length opened)) begun k content (behind_twice stage) in
+    let stays : f.stage ≡ behind_element stage = content_stage (suc (length opened)) begun k content (drop_while_twice stage) in
     let close_steps = closes_to f e opened (behind_element stage) k c el.tag.name (fed_opened begun k) stays (fed_items begun k (content_apart (suc (length opened)) k content) tt) refl in
     let closing = reads_step f (with_element s o k (Some c)) u (end_tok c el.tag.name) end_tag after (el.tag.name, el.parts.name, el.closes) (λ k. cc) (refl, el.parts.name, el.closes) close_steps run in
     let content = inner e (c ++ after) (follows_end_tag el.tag.name c after el.closes) closing in

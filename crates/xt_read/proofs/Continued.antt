@@ -3,7 +3,7 @@ use Rattle.std.proofs.Common.{◌≡◌, ◌∙◌, ℕ, List, [], ◌++◌, len
 use Rattle.std.proofs.lemmas.List.{drop_at, append_cancel_right}
 use Rattle.xt_spec.specs.Token.{char_data, IsFront}
 use Rattle.xt_lex.specs.Place.{Follows}
-use Rattle.xt_lex.proofs.Theorems.{kinds, delimited_begins}
+use Rattle.xt_lex.proofs.Theorems.{kinds, markup_begins}
 use Rattle.xt_read.specs.Faults.{Passes, here, past}
 use Rattle.xt_read.specs.Run.{Tok, tok_text, IsToken, State}
 use Rattle.xt_read.proofs.Tokens.{token_some}
@@ -15,7 +15,7 @@ pub follows_token : (tok : Tok) (text rest : List ℕ) → IsToken tok text → 
 follows_token tok text rest is none = elim (kinds is.kind) [
   | inl is_data ↦ absurd (none (length (tok_text tok)) (subst (λ k. IsFront k (length (tok_text tok)) text) is_data is.longest.front))
   | inr delimited ↦
-      let (b, tail, e, begins) = delimited_begins is.kind (tok_text tok) (spelled_text tok text is) delimited in
+      let (b, tail, e, begins) = markup_begins is.kind (tok_text tok) (spelled_text tok text is) delimited in
       subst (λ t. Follows (t ++ rest)) (sym e) begins
 ]
 

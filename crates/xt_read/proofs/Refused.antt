@@ -4,7 +4,7 @@ use Rattle.std.proofs.Common.{◌≡◌, ◌∙◌, ℕ, suc, ◌<◌, List, [],
 use Rattle.std.proofs.lemmas.List.Folds.{list_all-append}
 use Rattle.std.specs.List.{list_all}
 use Rattle.xt_lex.specs.Data.{IsDelimiter}
-use Rattle.xt_lex.proofs.Theorems.{kinds, not_data, delimited_begins, plain_bytes}
+use Rattle.xt_lex.proofs.Theorems.{kinds, not_data, markup_begins, plain_bytes}
 use Rattle.xt_spec.specs.Char.{is_space}
 use Rattle.xt_spec.specs.Token.{TokenKind, char_data, Spells}
 use Rattle.xt_spec.specs.Tree.{Items, leaf_item, gap, source_text}
@@ -112,7 +112,7 @@ no_data_at_top s u text (b ∷ bs) rest (more s' v u' text' tok is steps run) e 
                 (no_blank_behind found.blank short.tail found.is_blank (ap (list_all is_space) (sym short.longer) ∙ isnt)) (plain_behind found.blank short.tail (subst AllPlain short.longer plain))
           ]
       | inr delimited ↦
-          let (c, tail, spelled, begins) = delimited_begins is.kind (tok_text tok) (spelled_text tok text is) delimited in
+          let (c, tail, spelled, begins) = markup_begins is.kind (tok_text tok) (spelled_text tok text is) delimited in
           let joined : c ∷ (tail ++ behind) ≡ b ∷ (bs ++ rest) = ap (λ t. t ++ behind) (sym spelled) ∙ split_front tok text is ∙ e in
           let same : c ≡ b = cc in
           absurd (plain.0 (subst IsDelimiter same begins))

@@ -7,7 +7,7 @@ ghost use Rattle.xt_spec.specs.Markup.{begins};
 ghost use Rattle.xt_spec.specs.Reading.{document, IsReading};
 ghost use Rattle.xt_spec.specs.Tag.{Attribute, IsAttValue};
 ghost use Rattle.xt_spec.specs.Tree.{nil, before};
-ghost use Rattle.xt_lex.specs.Scan.{run, behind};
+ghost use Rattle.xt_lex.specs.Scan.{take_while, drop_while};
 ghost use Rattle.xt_tree.specs.Meaning.{at_span, item_of, items_in};
 ghost use Rattle.xt_tree.specs.Places.{IsTagAt, AreInPlace, marks_in, marks_of};
 ghost use Rattle.xt_read.specs.References.{LacksByte, is_other, IsUpToSemicolon, AreSingles, HasParts, BeginsReference, HasNoParts, IsPastReference, IsUnquoted};
@@ -28,8 +28,8 @@ fn len_before(byte: u8, bytes: &[u8]) -> usize
 /// The text before the first such byte, an ASCII one, and from it on.
 fn split_before(byte: u8, text: &str) -> (&str, &str)
     requires { byte < 128 }
-    ensures value { result.0.now ≡ run (is_other byte) text.now }
-    ensures rest { result.1.now ≡ behind (is_other byte) text.now }
+    ensures value { result.0.now ≡ take_while (is_other byte) text.now }
+    ensures rest { result.1.now ≡ drop_while (is_other byte) text.now }
 {
     text.split_at(len_before(byte, text.as_bytes()))
 }

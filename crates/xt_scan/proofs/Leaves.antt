@@ -11,10 +11,10 @@ use Rattle.xt_spec.specs.Char.{is_space}
 use Rattle.xt_spec.specs.Tag.{IsBlank, IsSpace, IsQuote}
 use Rattle.xt_spec.specs.Declaration.{IsQuoted}
 use Rattle.xt_scan.specs.Look.{Span, from_to, in_class, Look, sees_behind, sees, solid_in, spaced_any, spaced_by}
-use Rattle.xt_scan.specs.Step.{run, behind, after_all}
+use Rattle.xt_scan.specs.Step.{take_while, drop_while, after_all}
 use Rattle.xt_scan.specs.Form.{word, blank, read_space, space, piece, is_letter, letters, is_among, keyword, read_to_quote, read_quoted, tested, quoted, quoted_text, quoted_ascii, first_of_word}
 use Rattle.xt_scan.proofs.Looks.{spaced_sees, not_spaced}
-use Rattle.xt_scan.proofs.Steps.{bind_some, run_split, run_passes, Stops, run_again, stops_at, after_all_takes, after_all_again, ascii, ascii_run, all_weaker, blank_utf8, utf8_behind}
+use Rattle.xt_scan.proofs.Steps.{bind_some, take_while_split, take_while_passes, Stops, take_while_again, stops_at, after_all_takes, after_all_again, ascii, ascii_take_while, all_weaker, blank_utf8, utf8_behind}
 use Rattle.xt_scan.proofs.Laws.{Leads, Begins, Lawful, tested_some}
 
 -- ---- these bytes: some, the first no white space, all ASCII
@@ -76,15 +76,15 @@ blank_or [] h = inl (refl, refl)
 blank_or (b ∷ bs) h = inr (λ n. absurd (cc), some_blank (b ∷ bs) h (λ n. absurd (cc)))
 
 -- what was read as white space
-blank_begins : (s : List ℕ) → Begins true spaced_by s (behind is_space s)
+blank_begins : (s : List ℕ) → Begins true spaced_by s (drop_while is_space s)
 blank_begins [] = inl (refl, refl)
 blank_begins (b ∷ bs) =
     elim (cases_Bool (is_space b)) [
       | inl e ↦
-          let split : b ∷ bs ≡ (b ∷ run is_space bs) ++ behind is_space bs = ap (λ t. b ∷ t) (run_split is_space bs) in
-          let rest : behind is_space (b ∷ bs) ≡ behind is_space bs = rw e refl in
-          inr (λ l i. subst (λ s. sees (spaced_by l) s ≡ true) (sym split) (some_blank (b ∷ run is_space bs) (and_from _ _ e (run_passes is_space bs)) (λ n. absurd (cc)) l (behind is_space bs) (subst (λ r. sees l r ≡ true) rest i)))
-      | inr e ↦ let rest : behind is_space (b ∷ bs) ≡ b ∷ bs = rw e refl in inl (sym rest, refl)
+          let split : b ∷ bs ≡ (b ∷ take_while is_space bs) ++ drop_while is_space bs = ap (λ t. b ∷ t) (take_while_split is_space bs) in
+          let rest : drop_while is_space (b ∷ bs) ≡ drop_while is_space bs = rw e refl in
+          inr (λ l i. subst (λ s. sees (spaced_by l) s ≡ true) (sym split) (some_blank (b ∷ take_while is_space bs) (and_from _ _ e (take_while_passes is_space bs)) (λ n. absurd (cc)) l (drop_while is_space bs) (subst (λ r. sees l r ≡ true) rest i)))
+      | inr e ↦ let rest : drop_while is_space (b ∷ bs) ≡ b ∷ bs = rw e refl in inl (sym rest, refl)
     ]
 
 no_space : (r : List ℕ) → sees spaced_any r ≡ false → Stops is_space r
@@ -93,11 +93,11 @@ no_space r out = stops_at is_space r (not_spaced r out)
 pub lawful_blank : Lawful blank
 lawful_blank = record {
   takes = λ s v r u e.
-      let same : ◌≡◌ {A = Unit {0} × List ℕ} (tt, behind is_space s) (v, r) = cc in
-      (run is_space s, run_passes is_space s, run_split is_space s ∙ ap (λ r. run is_space s ++ r) (ap (λ p. p.1) same));
-  again = λ v t r s out. let again = (run_again is_space t r s (no_space r out)).1 in rw again refl;
+      let same : ◌≡◌ {A = Unit {0} × List ℕ} (tt, drop_while is_space s) (v, r) = cc in
+      (take_while is_space s, take_while_passes is_space s, take_while_split is_space s ∙ ap (λ r. take_while is_space s ++ r) (ap (λ p. p.1) same));
+  again = λ v t r s out. let again = (take_while_again is_space t r s (no_space r out)).1 in rw again refl;
   begins = λ s v r e.
-      let same : ◌≡◌ {A = Unit {0} × List ℕ} (tt, behind is_space s) (v, r) = cc in
+      let same : ◌≡◌ {A = Unit {0} × List ℕ} (tt, drop_while is_space s) (v, r) = cc in
       subst (Begins true spaced_by s) (ap (λ p. p.1) same) (blank_begins s);
   leads = λ v t s. blank_or t s;
   utf8 = λ v t s. blank_utf8 t s;
@@ -108,9 +108,9 @@ space_takes [] r v h = absurd (cc)
 space_takes (b ∷ bs) r v h =
     elim (cases_Bool (is_space b)) [
       | inl e ↦
-          let rest : ◌≡◌ {A = Option (Unit {0} × List ℕ)} (Some (tt, behind is_space bs)) (Some (v, r)) = rw e at h in
-          let same : ◌≡◌ {A = Unit {0} × List ℕ} (tt, behind is_space bs) (v, r) = cc in
-          (b ∷ run is_space bs, (and_from _ _ e (run_passes is_space bs), λ n. absurd (cc)), ap (λ t. b ∷ t) (run_split is_space bs ∙ ap (λ t. run is_space bs ++ t) (ap (λ p. p.1) same)))
+          let rest : ◌≡◌ {A = Option (Unit {0} × List ℕ)} (Some (tt, drop_while is_space bs)) (Some (v, r)) = rw e at h in
+          let same : ◌≡◌ {A = Unit {0} × List ℕ} (tt, drop_while is_space bs) (v, r) = cc in
+          (b ∷ take_while is_space bs, (and_from _ _ e (take_while_passes is_space bs), λ n. absurd (cc)), ap (λ t. b ∷ t) (take_while_split is_space bs ∙ ap (λ t. take_while is_space bs ++ t) (ap (λ p. p.1) same)))
       | inr e ↦ let none : ◌≡◌ {A = Option (Unit {0} × List ℕ)} None (Some (v, r)) = rw e at h in absurd (cc)
     ]
 
@@ -119,7 +119,7 @@ space_again [] r v h out = absurd (h.1 refl)
 space_again (b ∷ bs) r v h out =
     let both = and_parts _ _ h.0 in
     let first : is_space b ≡ true = both.0 in
-    let rest = (run_again is_space bs r both.1 (no_space r out)).1 in
+    let rest = (take_while_again is_space bs r both.1 (no_space r out)).1 in
     rw first (rw rest refl)
 
 pub lawful_space : Lawful space
@@ -139,7 +139,7 @@ lawful_space = record {
 pub record IsPiece (p : ℕ → Bool) (c : List Span) (test : List ℕ → Bool) (Is : List ℕ → Type 0) : Type 0 where
   pub in_ : (b : ℕ) → p b ≡ true → in_class c b ≡ true
   pub solid : (b : ℕ) → p b ≡ true → is_space b ≡ false
-  pub cuts : (s : List ℕ) → IsUtf8 s → IsUtf8 (run p s)
+  pub cuts : (s : List ℕ) → IsUtf8 s → IsUtf8 (take_while p s)
   pub from : (t : List ℕ) → IsUtf8 t → list_all p t ≡ true → test t ≡ true → Is t
   pub to : (t : List ℕ) → Is t → test t ≡ true
   pub all : (t : List ℕ) → Is t → list_all p t ≡ true
@@ -172,33 +172,33 @@ module _ (p : ℕ → Bool) (c : List Span) (test : List ℕ → Bool) (Is : Lis
 
   piece_takes : (s v r : List ℕ) → IsUtf8 s → (piece p c test Is).read s ≡ Some (v, r) → (t : List ℕ) × (piece p c test Is).Spells v t × (s ≡ t ++ r)
   piece_takes s v r u h =
-      elim (cases_Bool (test (run p s))) [
+      elim (cases_Bool (test (take_while p s))) [
         | inl e ↦
-            let rest : ◌≡◌ {A = Option (List ℕ × List ℕ)} (Some (run p s, behind p s)) (Some (v, r)) = rw e at h in
-            let same : ◌≡◌ {A = List ℕ × List ℕ} (run p s, behind p s) (v, r) = cc in
-            let first : run p s ≡ v = ap (λ p. p.0) same in
-            (run p s, (first, subst Is first (is.from (run p s) (is.cuts s u) (run_passes p s) e)), run_split p s ∙ ap (λ r. run p s ++ r) (ap (λ p. p.1) same))
+            let rest : ◌≡◌ {A = Option (List ℕ × List ℕ)} (Some (take_while p s, drop_while p s)) (Some (v, r)) = rw e at h in
+            let same : ◌≡◌ {A = List ℕ × List ℕ} (take_while p s, drop_while p s) (v, r) = cc in
+            let first : take_while p s ≡ v = ap (λ p. p.0) same in
+            (take_while p s, (first, subst Is first (is.from (take_while p s) (is.cuts s u) (take_while_passes p s) e)), take_while_split p s ∙ ap (λ r. take_while p s ++ r) (ap (λ p. p.1) same))
         | inr e ↦ let none : ◌≡◌ {A = Option (List ℕ × List ℕ)} None (Some (v, r)) = rw e at h in absurd (cc)
       ]
 
   piece_again : (v t r : List ℕ) → (piece p c test Is).Spells v t → sees (solid_in c) r ≡ false → (piece p c test Is).read (t ++ r) ≡ Some (v, r)
   piece_again v t r s out =
-      let again = run_again p v r (is.all v s.1) (piece_stops r out) in
+      let again = take_while_again p v r (is.all v s.1) (piece_stops r out) in
       let passes = is.to v s.1 in
       let same : t ≡ v = s.0 in
       rw (same, again.0, again.1, passes) refl
 
-  piece_seen : (s : List ℕ) → test (run p s) ≡ true → sees (solid_in c) s ≡ true
+  piece_seen : (s : List ℕ) → test (take_while p s) ≡ true → sees (solid_in c) s ≡ true
   piece_seen [] h = absurd (both_ways _ is.none h)
   piece_seen (b ∷ bs) h =
       elim (cases_Bool (p b)) [
         | inl e ↦ let solid : is_space b ≡ false = is.solid b e in rw solid (is.in_ b e)
-        | inr e ↦ let none : run p (b ∷ bs) ≡ [] = rw e refl in absurd (both_ways _ is.none (subst (λ t. test t ≡ true) none h))
+        | inr e ↦ let none : take_while p (b ∷ bs) ≡ [] = rw e refl in absurd (both_ways _ is.none (subst (λ t. test t ≡ true) none h))
       ]
 
   piece_begins : (s v r : List ℕ) → (piece p c test Is).read s ≡ Some (v, r) → Begins false (λ l. solid_in c) s r
   piece_begins s v r h =
-      elim (cases_Bool (test (run p s))) [
+      elim (cases_Bool (test (take_while p s))) [
         | inl e ↦ inr (λ l i. piece_seen s e)
         | inr e ↦ let none : ◌≡◌ {A = Option (List ℕ × List ℕ)} None (Some (v, r)) = rw e at h in absurd (cc)
       ]
@@ -254,7 +254,7 @@ lawful_keyword words all =
     lawful_piece is_letter letters (is_among words) (λ t. IsTrue (is_among words t)) (record {
       in_ = letter_in;
       solid = letter_solid;
-      cuts = ascii_run is_letter letter_small;
+      cuts = ascii_take_while is_letter letter_small;
       from = λ t u p h. h;
       to = λ t h. h;
       all = λ t h. (parts t h).0;
@@ -310,12 +310,12 @@ quote_utf8 q (inr is) = rw is (ascii (39 ∷ []) refl)
 to_quote : (q : ℕ) (s v r : List ℕ) → IsQuote q → read_to_quote q s ≡ Some (v, r) → (t : List ℕ) × IsQuoted v t × (q ∷ s ≡ t ++ r) × (s ≡ v ++ (q ∷ r))
 to_quote q s v r quote h =
     let p = λ (b : ℕ). not (eqb b q) in
-    let x = bind_some (after_all (q ∷ []) (behind p s)) _ _ h in
-    let same : ◌≡◌ {A = List ℕ × List ℕ} (run p s, x.0) (v, r) = cc (x.2) in
-    let first : run p s ≡ v = ap (λ p. p.0) same in
+    let x = bind_some (after_all (q ∷ []) (drop_while p s)) _ _ h in
+    let same : ◌≡◌ {A = List ℕ × List ℕ} (take_while p s, x.0) (v, r) = cc (x.2) in
+    let first : take_while p s ≡ v = ap (λ p. p.0) same in
     let rest : x.0 ≡ r = ap (λ p. p.1) same in
-    let split : s ≡ v ++ (q ∷ r) = run_split p s ∙ ap (λ t. run p s ++ t) (after_all_takes (q ∷ []) (behind p s) x.0 x.1) ∙ ap (λ v. v ++ (q ∷ x.0)) first ∙ ap (λ r. v ++ (q ∷ r)) rest in
-    ((q ∷ v) ++ q ∷ [], (q, quote, subst (λ v. list_all p v ≡ true) first (run_passes p s), refl), ap (λ t. q ∷ t) (split ∙ sym (append_assoc v (q ∷ []) r)), split)
+    let split : s ≡ v ++ (q ∷ r) = take_while_split p s ∙ ap (λ t. take_while p s ++ t) (after_all_takes (q ∷ []) (drop_while p s) x.0 x.1) ∙ ap (λ v. v ++ (q ∷ x.0)) first ∙ ap (λ r. v ++ (q ∷ r)) rest in
+    ((q ∷ v) ++ q ∷ [], (q, quote, subst (λ v. list_all p v ≡ true) first (take_while_passes p s), refl), ap (λ t. q ∷ t) (split ∙ sym (append_assoc v (q ∷ []) r)), split)
 
 -- what is read in quotes, and that it is text
 pub any_quoted_takes : (s v r : List ℕ) → read_quoted s ≡ Some (v, r) → (t : List ℕ) × IsQuoted v t × (s ≡ t ++ r) × (IsUtf8 s → IsUtf8 v)
@@ -334,7 +334,7 @@ quote_again : (q : ℕ) (v r : List ℕ) → list_all (λ b. not (eqb b q)) v �
 quote_again q v r lacks =
     let p = λ (b : ℕ). not (eqb b q) in
     let here : eqb q q ≡ true = eq-eqb q q refl in
-    let again = run_again p v (q ∷ r) lacks (rw here refl, rw here refl) in
+    let again = take_while_again p v (q ∷ r) lacks (rw here refl, rw here refl) in
     rw (again.0, again.1) (rw here refl)
 
 pub any_quoted_again : (v t r : List ℕ) → IsQuoted v t → read_quoted (t ++ r) ≡ Some (v, r)

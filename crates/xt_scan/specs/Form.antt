@@ -9,7 +9,7 @@ use Rattle.xt_spec.specs.Char.{is_space, is_within}
 use Rattle.xt_spec.specs.Tag.{IsBlank, IsSpace}
 use Rattle.xt_spec.specs.Declaration.{IsQuoted}
 use Rattle.xt_scan.specs.Look.{Span, from_to, Look, either, either_if, nothing, anything, solid_in, spaced_any, spaced_by}
-use Rattle.xt_scan.specs.Step.{◌>>=◌, run, behind, after_all, maybe_read, or_read, many_read}
+use Rattle.xt_scan.specs.Step.{◌>>=◌, take_while, drop_while, after_all, maybe_read, or_read, many_read}
 
 pub record Form (A : Type 0) : Type 1 where
   pub Spells : A → List ℕ → Type 0
@@ -39,7 +39,7 @@ word w = record {
 abbrev pub blank : Form (Unit {0})
 blank = record {
   Spells = λ v t. IsBlank t;
-  read = λ s. Some (tt, behind is_space s);
+  read = λ s. Some (tt, drop_while is_space s);
   null = true;
   front = spaced_by;
   bars = spaced_any;
@@ -47,7 +47,7 @@ blank = record {
 
 abbrev pub read_space : List ℕ → Option (Unit {0} × List ℕ)
 read_space [] = None
-read_space (b ∷ bs) = if is_space b then Some (tt, behind is_space bs) else None
+read_space (b ∷ bs) = if is_space b then Some (tt, drop_while is_space bs) else None
 
 -- white space
 abbrev pub space : Form (Unit {0})
@@ -63,7 +63,7 @@ space = record {
 abbrev pub piece : (ℕ → Bool) → List Span → (List ℕ → Bool) → (List ℕ → Type 0) → Form (List ℕ)
 piece p c test Is = record {
   Spells = λ v t. (t ≡ v) × Is v;
-  read = λ s. if test (run p s) then Some (run p s, behind p s) else None;
+  read = λ s. if test (take_while p s) then Some (take_while p s, drop_while p s) else None;
   null = false;
   front = λ l. solid_in c;
   bars = solid_in c;
@@ -85,7 +85,7 @@ abbrev pub keyword : List (List ℕ) → Form (List ℕ)
 keyword words = piece is_letter letters (is_among words) (λ t. IsTrue (is_among words t))
 
 abbrev pub read_to_quote : ℕ → List ℕ → Option (List ℕ × List ℕ)
-read_to_quote q s = after_all (q ∷ []) (behind (λ b. not (b == q)) s) >>= λ r. Some (run (λ b. not (b == q)) s, r)
+read_to_quote q s = after_all (q ∷ []) (drop_while (λ b. not (b == q)) s) >>= λ r. Some (take_while (λ b. not (b == q)) s, r)
 
 abbrev pub read_quoted : List ℕ → Option (List ℕ × List ℕ)
 read_quoted [] = None

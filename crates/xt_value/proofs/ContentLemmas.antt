@@ -10,7 +10,7 @@ use Rattle.xt_spec.specs.Namespace.{NamedValue}
 use Rattle.xt_spec.specs.Content.{Content, element_content, text_content, comment_content, pi_content, IsPiOf, typed, HaveValues, HasContent}
 use Rattle.xt_spec.specs.Markup.{IsCommentOf}
 use Rattle.xt_lex.specs.Place.{EndsTag}
-use Rattle.xt_lex.proofs.Theorems.{tag_unique, behind_append}
+use Rattle.xt_lex.proofs.Theorems.{tag_unique, drop_while_append}
 use Rattle.xt_value.specs.Parts.{IsCut}
 use Rattle.xt_value.proofs.MarkupLemmas.{pi_cut, pi_is_cut, data_stay}
 use Rattle.xt_value.proofs.UniqueLemmas.{text_value_unique, attribute_value_unique}
@@ -28,7 +28,7 @@ pi_unique text target inner other data_ first second =
     let body : target ++ first.space ++ inner ≡ other ++ second.space ++ data_ = append_cancel_right _ _ (codes "?>") (append_cancel_left (codes "<?") _ _ whole) in
     let cut : IsCut is_space (target ++ first.space ++ inner) other (second.space ++ data_) = subst (λ (l : List ℕ). IsCut is_space l other (second.space ++ data_)) (sym body) (pi_is_cut text other data_ second) in
     let parts = pi_cut text target inner (target ++ first.space ++ inner) other (second.space ++ data_) first refl cut in
-    (parts.0, parts.1 ∙ behind_append is_space second.space data_ second.is_space ∙ data_stay data_ second.begins)
+    (parts.0, parts.1 ∙ drop_while_append is_space second.space data_ second.is_space ∙ data_stay data_ second.begins)
 
 values_unique : (attributes : List Attribute) (xs ys : List NamedValue) → HaveValues attributes xs → HaveValues attributes ys → xs ≡ ys
 values_unique [] xs ys first second = first ∙ sym second

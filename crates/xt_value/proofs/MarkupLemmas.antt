@@ -7,8 +7,8 @@ use Rattle.xt_spec.specs.Name.{IsNCName}
 use Rattle.xt_spec.specs.Tag.{IsBlank}
 use Rattle.xt_spec.specs.Content.{IsPiOf, begins_blank}
 use Rattle.xt_lex.specs.NameTest.{is_name_byte}
-use Rattle.xt_lex.specs.Scan.{behind}
-use Rattle.xt_lex.proofs.Theorems.{ncname_passes, behind_append, space_no_name}
+use Rattle.xt_lex.specs.Scan.{drop_while}
+use Rattle.xt_lex.proofs.Theorems.{ncname_passes, drop_while_append, space_no_name}
 use Rattle.xt_value.specs.Parts.{lacks_all, Stops, IsCut}
 use Rattle.xt_value.proofs.Searches.{cut_unique}
 
@@ -33,15 +33,15 @@ space_stops : (space inner : List ℕ) → IsBlank space → (space ≡ [] → i
 space_stops [] inner blank apart = inl (apart refl)
 space_stops (b ∷ space) inner blank apart = inr (b, space ++ inner, refl, (and_parts (is_space b) (list_all is_space space) blank).0)
 
-pub data_stay : (inner : List ℕ) → begins_blank inner ≡ false → behind is_space inner ≡ inner
+pub data_stay : (inner : List ℕ) → begins_blank inner ≡ false → drop_while is_space inner ≡ inner
 data_stay [] begins = refl
 data_stay (b ∷ inner) begins = let lacks : is_space b ≡ false = begins in rw lacks refl
 
 -- the target, and the data behind the white space
-pub pi_cut : (pi target inner body front rest : List ℕ) → (is : IsPiOf pi target inner) → body ≡ target ++ is.space ++ inner → IsCut is_space body front rest → (target ≡ front) × (inner ≡ behind is_space rest)
+pub pi_cut : (pi target inner body front rest : List ℕ) → (is : IsPiOf pi target inner) → body ≡ target ++ is.space ++ inner → IsCut is_space body front rest → (target ≡ front) × (inner ≡ drop_while is_space rest)
 pi_cut pi target inner body front rest is spelled cut =
     let same = cut_unique is_space target front (is.space ++ inner) rest (target_lacks target is.is_target.0) cut.lacks (space_stops is.space inner is.is_space is.apart) cut.stops (sym (append_assoc target is.space inner) ∙ sym spelled ∙ sym cut.joined) in
-    (same.0, sym (data_stay inner is.begins) ∙ sym (behind_append is_space is.space inner is.is_space) ∙ ap (behind is_space) same.1)
+    (same.0, sym (data_stay inner is.begins) ∙ sym (drop_while_append is_space is.space inner is.is_space) ∙ ap (drop_while is_space) same.1)
 
 -- .. and so cut, the body joins again
 pub pi_is_cut : (pi target inner : List ℕ) → (is : IsPiOf pi target inner) → IsCut is_space (target ++ is.space ++ inner) target (is.space ++ inner)

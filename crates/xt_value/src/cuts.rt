@@ -2,7 +2,7 @@
 ghost use Rattle.std.specs.Prelude.{◌≡◌, ◌≢◌, ◌<◌, ◌≤◌, List, ℕ, [], ◌∷◌, ◌++◌, length, true, codes, option_map, Some, IfSome, MatchOption};
 ghost use Rattle.std.specs.List.{position_or_len, prefix_len};
 ghost use Rattle.memchr.specs.Find.{is_byte, is_byte2, is_byte3};
-ghost use Rattle.xt_lex.specs.Scan.{behind, cut};
+ghost use Rattle.xt_lex.specs.Scan.{drop_while, cut};
 ghost use Rattle.xt_spec.specs.Char.{is_space};
 ghost use Rattle.xt_spec.specs.Markup.{IsSectionOf};
 ghost use Rattle.std.specs.Option.{option_copied};
@@ -81,7 +81,7 @@ fn space_len(bytes: &[u8]) -> usize
 
 /// What follows white space in front, of which there may be none.
 pub(crate) fn behind_space(text: &str) -> &str
-    ensures value { result.now ≡ behind is_space text.now }
+    ensures value { result.now ≡ drop_while is_space text.now }
 {
     &text[space_len(text.as_bytes())..]
 }

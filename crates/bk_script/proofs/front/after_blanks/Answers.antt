@@ -1,6 +1,6 @@
 use Rattle.std.proofs.Common.{◌≡◌}
 use Rattle.std.specs.List.{prefix_len}
-use Rattle.xt_lex.proofs.Theorems.{boundary_behind, behind_is}
+use Rattle.xt_lex.proofs.Theorems.{boundary_behind, drop_while_is}
 use Rattle.bk_script.specs.Word.{is_blank}
 use Rattle.bk_script.proofs.Fronts.{blank_ascii}
 use Rattle.bk_script.proofs.front.after_blanks.Goals as goal
@@ -12,5 +12,5 @@ range_from-requires c some =
 
 pub returns : goal.returns
 returns c =
-    let e = behind_is is_blank c.args.text.now in
+    let e = drop_while_is is_blank c.args.text.now in
     cc

@@ -1,7 +1,7 @@
 use Rattle.std.proofs.Common.{◌≡◌}
 use Rattle.std.specs.List.{prefix_len}
 use Rattle.bk_script.specs.Word.{is_plain}
-use Rattle.xt_lex.proofs.Theorems.{boundary_at_stop, behind_is, run_is}
+use Rattle.xt_lex.proofs.Theorems.{boundary_at_stop, drop_while_is, take_while_is}
 use Rattle.bk_script.proofs.Fronts.{no_plain_ascii}
 use Rattle.bk_script.proofs.front.split_plain.Goals as goal
 
@@ -12,10 +12,10 @@ split_at-requires c =
 
 pub returns-clause-plain : goal.returns-clause-plain
 returns-clause-plain c =
-    let e = run_is is_plain c.args.text.now in
+    let e = take_while_is is_plain c.args.text.now in
     cc
 
 pub returns-clause-rest : goal.returns-clause-rest
 returns-clause-rest c =
-    let e = behind_is is_plain c.args.text.now in
+    let e = drop_while_is is_plain c.args.text.now in
     cc

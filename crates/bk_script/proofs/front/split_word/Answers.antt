@@ -1,7 +1,7 @@
 use Rattle.std.proofs.Common.{◌≡◌}
 use Rattle.std.specs.List.{prefix_len}
 use Rattle.bk_script.specs.Reading.{is_no_blank}
-use Rattle.xt_lex.proofs.Theorems.{boundary_at_stop, behind_is, run_is}
+use Rattle.xt_lex.proofs.Theorems.{boundary_at_stop, drop_while_is, take_while_is}
 use Rattle.bk_script.proofs.Fronts.{no_blank_ascii}
 use Rattle.bk_script.proofs.front.split_word.Goals as goal
 
@@ -12,10 +12,10 @@ split_at-requires c =
 
 pub returns-clause-word : goal.returns-clause-word
 returns-clause-word c =
-    let e = run_is is_no_blank c.args.text.now in
+    let e = take_while_is is_no_blank c.args.text.now in
     cc
 
 pub returns-clause-rest : goal.returns-clause-rest
 returns-clause-rest c =
-    let e = behind_is is_no_blank c.args.text.now in
+    let e = drop_while_is is_no_blank c.args.text.now in
     cc

@@ -2,7 +2,7 @@ use Rattle.std.proofs.Common.{◌≡◌, arith, eqb-true}
 use Rattle.std.proofs.lemmas.Bool.{not-false}
 use Rattle.std.specs.List.{prefix_len}
 use Rattle.xt_lex.specs.Scan.{is_no_ampersand}
-use Rattle.xt_lex.proofs.Runs.{boundary_at_stop, behind_is}
+use Rattle.xt_lex.proofs.Runs.{boundary_at_stop, drop_while_is}
 use Rattle.xt_lex.proofs.attribute.at_ampersand.Goals as goal
 
 pub range_from-requires : goal.range_from-requires
@@ -12,5 +12,5 @@ range_from-requires c some =
 
 pub returns : goal.returns
 returns c =
-    let e = behind_is is_no_ampersand c.args.text.now in
+    let e = drop_while_is is_no_ampersand c.args.text.now in
     cc

@@ -1,8 +1,8 @@
 use Rattle.std.proofs.Common.{◌≡◌, length, Some, None, ap, sym, ◌∙◌, arith}
-use Rattle.xt_lex.specs.Scan.{behind, many, is_plain_in_subset, after_subset_part}
+use Rattle.xt_lex.specs.Scan.{drop_while, many, is_plain_in_subset, after_subset_part}
 use Rattle.xt_lex.proofs.Many.{many_step, many_stop}
 use Rattle.xt_lex.proofs.Subsets.{part_shrinks, many_plain, marked_is, marked_shrinks}
-use Rattle.xt_lex.proofs.Values.{behind_twice, behind_shorter}
+use Rattle.xt_lex.proofs.Values.{drop_while_twice, drop_while_shorter}
 use Rattle.xt_lex.proofs.doctype.after_parts.Goals as goal
 
 pub loop-next-init : goal.loop-next-init
@@ -10,7 +10,7 @@ loop-next-init c =
     let is = c.at_mark-rest.ensures in
     record {
       utf8 = c.at_mark-rest.utf8;
-      marked = ap (behind is_plain_in_subset) is ∙ behind_twice is_plain_in_subset c.args.text.now ∙ sym is;
+      marked = ap (drop_while is_plain_in_subset) is ∙ drop_while_twice is_plain_in_subset c.args.text.now ∙ sym is;
       same = ap (many after_subset_part) is ∙ many_plain c.args.text.now;
     }
 
@@ -20,14 +20,14 @@ loop-next-preserved c =
     let found : after_subset_part c.loop-next.rest.now ≡ Some c.in-Some.next.now = sym (marked_is c.loop-next.rest.now c.loop-next.invariant.marked) ∙ sym c.in-Some.ensures in
     record {
       utf8 = c.at_mark-rest-in-Some.utf8;
-      marked = ap (behind is_plain_in_subset) is ∙ behind_twice is_plain_in_subset c.in-Some.next.now ∙ sym is;
+      marked = ap (drop_while is_plain_in_subset) is ∙ drop_while_twice is_plain_in_subset c.in-Some.next.now ∙ sym is;
       same = ap (many after_subset_part) is ∙ many_plain c.in-Some.next.now ∙ sym (many_step after_subset_part part_shrinks c.loop-next.rest.now c.in-Some.next.now found) ∙ c.loop-next.invariant.same;
     }
 
 pub loop-next-smaller : goal.loop-next-smaller
 loop-next-smaller c =
     let less = marked_shrinks c.loop-next.rest.now c.in-Some.next.now (sym c.in-Some.ensures) in
-    omega (arith, ap length c.at_mark-rest-in-Some.ensures, behind_shorter is_plain_in_subset c.in-Some.next.now)
+    omega (arith, ap length c.at_mark-rest-in-Some.ensures, drop_while_shorter is_plain_in_subset c.in-Some.next.now)
 
 pub returns : goal.returns
 returns c =

@@ -1,7 +1,7 @@
 use Rattle.std.proofs.Common.{◌≡◌}
 use Rattle.std.specs.List.{prefix_len}
 use Rattle.xt_lex.specs.Scan.{is_plain_in_subset}
-use Rattle.xt_lex.proofs.Runs.{boundary_at_stop, mark_ascii, behind_is}
+use Rattle.xt_lex.proofs.Runs.{boundary_at_stop, mark_ascii, drop_while_is}
 use Rattle.xt_lex.proofs.doctype.at_mark.Goals as goal
 
 pub range_from-requires : goal.range_from-requires
@@ -11,5 +11,5 @@ range_from-requires c some =
 
 pub returns : goal.returns
 returns c =
-    let e = behind_is is_plain_in_subset c.args.text.now in
+    let e = drop_while_is is_plain_in_subset c.args.text.now in
     cc

@@ -1,7 +1,7 @@
 use Rattle.std.proofs.Common.{◌≡◌}
 use Rattle.std.specs.List.{prefix_len}
 use Rattle.xt_spec.specs.Reference.{is_hexadecimal_digit}
-use Rattle.xt_lex.proofs.Runs.{boundary_behind_or_start, hexadecimal_ascii, behind_is, run_is}
+use Rattle.xt_lex.proofs.Runs.{boundary_behind_or_start, hexadecimal_ascii, drop_while_is, take_while_is}
 use Rattle.xt_lex.proofs.reference.split_hexadecimal.Goals as goal
 
 pub split_at-requires : goal.split_at-requires
@@ -11,10 +11,10 @@ split_at-requires c =
 
 pub returns-clause-digits : goal.returns-clause-digits
 returns-clause-digits c =
-    let e = run_is is_hexadecimal_digit c.args.text.now in
+    let e = take_while_is is_hexadecimal_digit c.args.text.now in
     cc
 
 pub returns-clause-rest : goal.returns-clause-rest
 returns-clause-rest c =
-    let e = behind_is is_hexadecimal_digit c.args.text.now in
+    let e = drop_while_is is_hexadecimal_digit c.args.text.now in
     cc

@@ -1,7 +1,7 @@
 use Rattle.std.proofs.Common.{◌≡◌, arith, eqb-true, ap, ◌∙◌, take, drop}
 use Rattle.std.proofs.lemmas.Bool.{not-false}
 use Rattle.std.specs.List.{prefix_len}
-use Rattle.xt_lex.proofs.Theorems.{boundary_at_stop, behind_is, run_is}
+use Rattle.xt_lex.proofs.Theorems.{boundary_at_stop, drop_while_is, take_while_is}
 use Rattle.xt_read.specs.References.{is_other}
 use Rattle.xt_read.proofs.content.split_before.Goals as goal
 
@@ -13,9 +13,9 @@ split_at-requires c =
 pub returns-clause-value : goal.returns-clause-value
 returns-clause-value c =
     let n : c.len_before.result ≡ prefix_len (is_other c.args.byte) c.args.text.now = rw c.as_bytes.ensures.value at c.len_before.ensures in
-    c.split_at.ensures.front ∙ ap (λ n. take n c.args.text.now) n ∙ run_is (is_other c.args.byte) c.args.text.now
+    c.split_at.ensures.front ∙ ap (λ n. take n c.args.text.now) n ∙ take_while_is (is_other c.args.byte) c.args.text.now
 
 pub returns-clause-rest : goal.returns-clause-rest
 returns-clause-rest c =
     let n : c.len_before.result ≡ prefix_len (is_other c.args.byte) c.args.text.now = rw c.as_bytes.ensures.value at c.len_before.ensures in
-    c.split_at.ensures.back ∙ ap (λ n. drop n c.args.text.now) n ∙ behind_is (is_other c.args.byte) c.args.text.now
+    c.split_at.ensures.back ∙ ap (λ n. drop n c.args.text.now) n ∙ drop_while_is (is_other c.args.byte) c.args.text.now

@@ -8,7 +8,7 @@ use Rattle.xt_spec.specs.Declaration.{Declaration}
 use Rattle.xt_spec.specs.Markup.{begins, lacks, is_reserved}
 use Rattle.xt_spec.specs.Token.{TokenKind, start_tag, empty_tag, end_tag, char_data, char_ref, entity_ref, cdata_section, comment, pi, declaration, doctype, Spells}
 use Rattle.xt_lex.specs.NameTest.{is_name_byte}
-use Rattle.xt_lex.specs.Scan.{◌>>=◌, maybe, after, after_all, after_chars, cdata_step, comment_step, doctype_step, declared_section, declared, after_target, after_data, instruction, instructed, run, behind, markup, open_tag, undeclared, angled}
+use Rattle.xt_lex.specs.Scan.{◌>>=◌, maybe, after, after_all, after_chars, cdata_step, comment_step, doctype_step, declared_section, declared, after_target, after_data, instruction, pi_or_declaration, take_while, drop_while, tag, open_tag, tag_or_pi, angle_markup}
 use Rattle.xt_lex.proofs.Attributes.{utf8_rest}
 use Rattle.xt_lex.proofs.Cuts.{after_all_takes, after_chars_takes, after_chars_again, is_fresh, lacks_from_fresh, Stays, fresh_from_lacks}
 use Rattle.xt_lex.proofs.Declarations.{declaration_takes, is_values, values_again, values_target}
@@ -17,8 +17,8 @@ use Rattle.xt_lex.proofs.Doctypes.{doctype_takes, doctype_split, doctype_again}
 use Rattle.xt_lex.proofs.NameLemmas.{ncname_passes}
 use Rattle.xt_lex.proofs.Instructions.{target_takes, target_again, data_takes, data_again, data_no_name}
 use Rattle.xt_lex.proofs.References.{pair_parts}
-use Rattle.xt_lex.proofs.StepLemmas.{bind_some, run_split, run_append, after_takes, name_run_utf8}
-use Rattle.xt_lex.proofs.Tags.{IsMarkup, markup_takes, markup_again}
+use Rattle.xt_lex.proofs.StepLemmas.{bind_some, take_while_split, take_while_append, after_takes, name_run_utf8}
+use Rattle.xt_lex.proofs.Tags.{IsTagKind, tag_takes, tag_again}
 use Rattle.xt_lex.proofs.Utf8.{ascii, ncname_utf8}
 
 -- a token that begins with `<` and is no tag
@@ -114,8 +114,8 @@ unfolding declared
 declared_takes s r k u h = declared_by s r k (after_all (codes "--") s) u refl h
 
 -- a token that begins with `<`
-abbrev pub IsAngled : TokenKind → Type 0
-IsAngled k = IsMarkup k ⊎ IsSpecial k
+abbrev pub IsAngleMarkup : TokenKind → Type 0
+IsAngleMarkup k = IsTagKind k ⊎ IsSpecial k
 
 instruction_joined : (s1 s2 target inner r : List ℕ) → s1 ≡ target ++ s2 → s2 ≡ inner ++ (codes "?>" ++ r) → codes "<?" ++ s1 ≡ (codes "<?" ++ target ++ inner ++ codes "?>") ++ r
 instruction_joined s1 s2 target inner r e f = rw (e, f) (simp append_assoc)
@@ -126,7 +126,7 @@ instruction_takes s r k u h =
     let end = bind_some (after_data target.0) _ _ target.2 in
     let same = pair_parts pi k end.0 r end.2 in
     let name = target_takes s target.0 u target.1 in
-    let front = run is_name_byte s in
+    let front = take_while is_name_byte s in
     let found = data_takes target.0 end.0 (utf8_rest s front target.0 u (ncname_utf8 front name.0.0) name.1) end.1 in
     let text = codes "<?" ++ front ++ found.0 ++ codes "?>" in
     let spelled = spelled_as k pi text (sym same.0) ((front, found.0, name.0, found.1, refl), tt) in
@@ -135,55 +135,55 @@ instruction_takes s r k u h =
 xml_joined : (s run_ rest : List ℕ) → s ≡ run_ ++ rest → run_ ≡ codes "xml" → codes "<?" ++ s ≡ codes "<?xml" ++ rest
 xml_joined s run_ rest e f = rw (e, f) refl
 
-instructed_takes : (s r : List ℕ) (k : TokenKind) → IsUtf8 s → instructed s ≡ Some (k, r) → (t : List ℕ) × (codes "<?" ++ s ≡ t ++ r) × Spells k t × IsSpecial k
-unfolding instructed
-instructed_takes s r k u h =
-    let front = run is_name_byte s in
+pi_or_declaration_takes : (s r : List ℕ) (k : TokenKind) → IsUtf8 s → pi_or_declaration s ≡ Some (k, r) → (t : List ℕ) × (codes "<?" ++ s ≡ t ++ r) × Spells k t × IsSpecial k
+unfolding pi_or_declaration
+pi_or_declaration_takes s r k u h =
+    let front = take_while is_name_byte s in
     elim (cases_Bool (bytes_eq front (codes "xml"))) [
       | inl e ↦
-          let step : (declared_values.read (behind is_name_byte s) >>= λ x. Some (declaration, x.1)) ≡ Some (k, r) = rw e at h in
-          let found = bind_some (declared_values.read (behind is_name_byte s)) _ _ step in
+          let step : (declared_values.read (drop_while is_name_byte s) >>= λ x. Some (declaration, x.1)) ≡ Some (k, r) = rw e at h in
+          let found = bind_some (declared_values.read (drop_while is_name_byte s)) _ _ step in
           let same = pair_parts declaration k found.0.1 r found.2 in
-          let rest : IsUtf8 (behind is_name_byte s) = utf8_rest s front (behind is_name_byte s) u (name_run_utf8 s u) (run_split is_name_byte s) in
-          let is = declaration_takes (behind is_name_byte s) found.0 rest found.1 in
+          let rest : IsUtf8 (drop_while is_name_byte s) = utf8_rest s front (drop_while is_name_byte s) u (name_run_utf8 s u) (take_while_split is_name_byte s) in
+          let is = declaration_takes (drop_while is_name_byte s) found.0 rest found.1 in
           let xml : front ≡ codes "xml" = (bytes_eq-Decides front (codes "xml")).0 e in
           let spelled = spelled_as k declaration is.0 (sym same.0) ((found.0.0, is.1), tt) in
-          (is.0, xml_joined s front (behind is_name_byte s) (run_split is_name_byte s) xml ∙ is.2 ∙ ap (λ r. is.0 ++ r) same.1, spelled.0, spelled.1)
+          (is.0, xml_joined s front (drop_while is_name_byte s) (take_while_split is_name_byte s) xml ∙ is.2 ∙ ap (λ r. is.0 ++ r) same.1, spelled.0, spelled.1)
       | inr e ↦ instruction_takes s r k u (rw e at h)
     ]
 
-undeclared_by : (s r : List ℕ) (k : TokenKind) (o : Option (List ℕ)) → IsUtf8 s → after_all (codes "<?") s ≡ o → maybe (markup s) instructed o ≡ Some (k, r) → (t : List ℕ) × (s ≡ t ++ r) × Spells k t × IsAngled k
-undeclared_by s r k None u e h =
-    let found = markup_takes s r k u h in
+tag_or_pi_by : (s r : List ℕ) (k : TokenKind) (o : Option (List ℕ)) → IsUtf8 s → after_all (codes "<?") s ≡ o → maybe (tag s) pi_or_declaration o ≡ Some (k, r) → (t : List ℕ) × (s ≡ t ++ r) × Spells k t × IsAngleMarkup k
+tag_or_pi_by s r k None u e h =
+    let found = tag_takes s r k u h in
     (found.0, found.1, found.2, inl found.3)
-undeclared_by s r k (Some s1) u e h =
+tag_or_pi_by s r k (Some s1) u e h =
     let is = after_all_takes (codes "<?") s s1 e in
-    let found = instructed_takes s1 r k (utf8_rest s (codes "<?") s1 u (ascii (codes "<?") refl) is) h in
+    let found = pi_or_declaration_takes s1 r k (utf8_rest s (codes "<?") s1 u (ascii (codes "<?") refl) is) h in
     (found.0, is ∙ found.1, found.2, inr found.3)
 
-undeclared_takes : (s r : List ℕ) (k : TokenKind) → IsUtf8 s → undeclared s ≡ Some (k, r) → (t : List ℕ) × (s ≡ t ++ r) × Spells k t × IsAngled k
-unfolding undeclared
-undeclared_takes s r k u h = undeclared_by s r k (after_all (codes "<?") s) u refl h
+tag_or_pi_takes : (s r : List ℕ) (k : TokenKind) → IsUtf8 s → tag_or_pi s ≡ Some (k, r) → (t : List ℕ) × (s ≡ t ++ r) × Spells k t × IsAngleMarkup k
+unfolding tag_or_pi
+tag_or_pi_takes s r k u h = tag_or_pi_by s r k (after_all (codes "<?") s) u refl h
 
-angled_by : (s r : List ℕ) (k : TokenKind) (o : Option (List ℕ)) → IsUtf8 s → after_all (codes "<!") s ≡ o → maybe (undeclared s) declared o ≡ Some (k, r) → (t : List ℕ) × (s ≡ t ++ r) × Spells k t × IsAngled k
-angled_by s r k None u e h = undeclared_takes s r k u h
-angled_by s r k (Some s1) u e h =
+angle_markup_by : (s r : List ℕ) (k : TokenKind) (o : Option (List ℕ)) → IsUtf8 s → after_all (codes "<!") s ≡ o → maybe (tag_or_pi s) declared o ≡ Some (k, r) → (t : List ℕ) × (s ≡ t ++ r) × Spells k t × IsAngleMarkup k
+angle_markup_by s r k None u e h = tag_or_pi_takes s r k u h
+angle_markup_by s r k (Some s1) u e h =
     let is = after_all_takes (codes "<!") s s1 e in
     let found = declared_takes s1 r k (utf8_rest s (codes "<!") s1 u (ascii (codes "<!") refl) is) h in
     (found.0, is ∙ found.1, found.2, inr found.3)
 
-pub angled_takes : (s r : List ℕ) (k : TokenKind) → IsUtf8 s → angled s ≡ Some (k, r) → (t : List ℕ) × (s ≡ t ++ r) × Spells k t × IsAngled k
-unfolding angled
-angled_takes s r k u h = angled_by s r k (after_all (codes "<!") s) u refl h
+pub angle_markup_takes : (s r : List ℕ) (k : TokenKind) → IsUtf8 s → angle_markup s ≡ Some (k, r) → (t : List ℕ) × (s ≡ t ++ r) × Spells k t × IsAngleMarkup k
+unfolding angle_markup
+angle_markup_takes s r k u h = angle_markup_by s r k (after_all (codes "<!") s) u refl h
 
 -- no tag begins so
-no_tag_declared : (x : List ℕ) → markup (codes "<!" ++ x) ≡ None
-unfolding markup open_tag
+no_tag_declared : (x : List ℕ) → tag (codes "<!" ++ x) ≡ None
+unfolding tag open_tag
 no_tag_declared x = rw chars-nil refl
 
-no_tag_instructed : (x : List ℕ) → markup (codes "<?" ++ x) ≡ None
-unfolding markup open_tag
-no_tag_instructed x = rw chars-nil refl
+no_tag_at_pi : (x : List ℕ) → tag (codes "<?" ++ x) ≡ None
+unfolding tag open_tag
+no_tag_at_pi x = rw chars-nil refl
 
 -- where no token of the other step begins so, this one's is found
 found_first : {A : Type 0} (front s : List ℕ) (here : Option A) (other : List ℕ → Option A) (x : A) (o : Option (List ℕ)) → ((y : List ℕ) → s ≡ front ++ y → here ≡ None) → here ≡ Some x → after_all front s ≡ o → maybe here other o ≡ Some x
@@ -197,13 +197,13 @@ begins_by s (Some y) e = inr (y, after_all_takes (codes "<!") s y e)
 begins_cases : (s : List ℕ) → (after_all (codes "<!") s ≡ None) ⊎ ((y : List ℕ) × (s ≡ codes "<!" ++ y))
 begins_cases s = begins_by s (after_all (codes "<!") s) refl
 
-angled_tag : (s r : List ℕ) (k : TokenKind) → markup s ≡ Some (k, r) → angled s ≡ Some (k, r)
-unfolding angled undeclared
-angled_tag s r k h =
-    let inner : maybe (markup s) instructed (after_all (codes "<?") s) ≡ Some (k, r) = found_first (codes "<?") s (markup s) instructed (k, r) (after_all (codes "<?") s) (λ y e. ap markup e ∙ no_tag_instructed y) h refl in
+angle_markup_tag : (s r : List ℕ) (k : TokenKind) → tag s ≡ Some (k, r) → angle_markup s ≡ Some (k, r)
+unfolding angle_markup tag_or_pi
+angle_markup_tag s r k h =
+    let inner : maybe (tag s) pi_or_declaration (after_all (codes "<?") s) ≡ Some (k, r) = found_first (codes "<?") s (tag s) pi_or_declaration (k, r) (after_all (codes "<?") s) (λ y e. ap tag e ∙ no_tag_at_pi y) h refl in
     elim (begins_cases s) [
       | inl none ↦ rw none inner
-      | inr (y, e) ↦ let bad : markup s ≡ None = ap markup e ∙ no_tag_declared y in absurd (cc)
+      | inr (y, e) ↦ let bad : tag s ≡ None = ap tag e ∙ no_tag_declared y in absurd (cc)
     ]
 
 again_behind : (t front inner ending r : List ℕ) → t ≡ front ++ inner ++ ending → t ++ r ≡ front ++ (inner ++ (ending ++ r))
@@ -212,8 +212,8 @@ again_behind t front inner ending r e = rw e (simp append_assoc)
 instruction_split : (t target inner r : List ℕ) → t ≡ codes "<?" ++ target ++ inner ++ codes "?>" → t ++ r ≡ codes "<?" ++ (target ++ (inner ++ (codes "?>" ++ r)))
 instruction_split t target inner r e = rw e (simp append_assoc)
 
-xml_again : (s rest r : List ℕ) (d : Declaration) → run is_name_byte s ≡ codes "xml" → behind is_name_byte s ≡ rest → declared_values.read rest ≡ Some (d, r) → instructed s ≡ Some (declaration, r)
-unfolding instructed
+xml_again : (s rest r : List ℕ) (d : Declaration) → take_while is_name_byte s ≡ codes "xml" → drop_while is_name_byte s ≡ rest → declared_values.read rest ≡ Some (d, r) → pi_or_declaration s ≡ Some (declaration, r)
+unfolding pi_or_declaration
 xml_again s rest r d front back found = rw front (rw back (rw found refl))
 
 not_xml : (target : List ℕ) → is_reserved target ≡ false → bytes_eq target (codes "xml") ≡ false
@@ -225,8 +225,8 @@ not_xml target reserved =
       | inr e ↦ e
     ]
 
-special_again : (t r : List ℕ) (k : TokenKind) → Spells k t → IsSpecial k → angled (t ++ r) ≡ Some (k, r)
-unfolding angled declared declared_section undeclared instructed
+special_again : (t r : List ℕ) (k : TokenKind) → Spells k t → IsSpecial k → angle_markup (t ++ r) ≡ Some (k, r)
+unfolding angle_markup declared declared_section tag_or_pi pi_or_declaration
 special_again t r cdata_section (inner, chars_, lacks_, e) s =
     let split = again_behind t (codes "<![CDATA[") inner (codes "]]>") r e in
     let found = after_chars_again (codes "]]>") inner r (omega arith) chars_ (fresh_from_lacks (codes "]]>") inner r stays_close lacks_) in
@@ -240,8 +240,8 @@ special_again t r pi (target, inner, name, is, e) s =
     let no_name = data_no_name inner r is in
     let one = target_again target (inner ++ (codes "?>" ++ r)) name no_name.0 no_name.1 in
     let two = data_again inner r is in
-    let front : run is_name_byte (target ++ (inner ++ (codes "?>" ++ r))) ≡ target = run_append is_name_byte target _ (ncname_passes target name.0) ∙ ap (λ t. target ++ t) no_name.0 ∙ append-nil target in
-    let other : bytes_eq (run is_name_byte (target ++ (inner ++ (codes "?>" ++ r)))) (codes "xml") ≡ false = ap (λ t. bytes_eq t (codes "xml")) front ∙ not_xml target name.1 in
+    let front : take_while is_name_byte (target ++ (inner ++ (codes "?>" ++ r))) ≡ target = take_while_append is_name_byte target _ (ncname_passes target name.0) ∙ ap (λ t. target ++ t) no_name.0 ∙ append-nil target in
+    let other : bytes_eq (take_while is_name_byte (target ++ (inner ++ (codes "?>" ++ r)))) (codes "xml") ≡ false = ap (λ t. bytes_eq t (codes "xml")) front ∙ not_xml target name.1 in
     rw split (rw other (rw one (rw two refl)))
 special_again t r declaration (d, is) s =
     let values = is_values d t is in
@@ -251,7 +251,7 @@ special_again t r declaration (d, is) s =
     rw split (xml_again (codes "xml" ++ rest) rest r d target.0 target.1 (values_again d values.0 r values.1))
 special_again t r doctype is s =
     let split = doctype_split t r is.space is.name is.external is.blank is.brackets is.spelled in
-    ap angled split ∙ doctype_again t r is
+    ap angle_markup split ∙ doctype_again t r is
 special_again t r start_tag h s = absurd s
 special_again t r empty_tag h s = absurd s
 special_again t r end_tag h s = absurd s
@@ -259,9 +259,9 @@ special_again t r char_data h s = absurd s
 special_again t r char_ref h s = absurd s
 special_again t r entity_ref h s = absurd s
 
-pub angled_again : (t r : List ℕ) (k : TokenKind) → Spells k t → IsAngled k → angled (t ++ r) ≡ Some (k, r)
-angled_again t r k h (inl m) = angled_tag (t ++ r) r k (markup_again t r k h m)
-angled_again t r k h (inr s) = special_again t r k h s
+pub angle_markup_again : (t r : List ℕ) (k : TokenKind) → Spells k t → IsAngleMarkup k → angle_markup (t ++ r) ≡ Some (k, r)
+angle_markup_again t r k h (inl m) = angle_markup_tag (t ++ r) r k (tag_again t r k h m)
+angle_markup_again t r k h (inr s) = special_again t r k h s
 
 -- it begins with `<`
 pub special_begins : (k : TokenKind) (t : List ℕ) → Spells k t → IsSpecial k → (x : List ℕ) × (t ≡ 60 ∷ x)
