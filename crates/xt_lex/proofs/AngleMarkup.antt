@@ -8,12 +8,13 @@ use Rattle.xt_spec.specs.Declaration.{Declaration}
 use Rattle.xt_spec.specs.Markup.{begins, lacks, is_reserved}
 use Rattle.xt_spec.specs.Token.{TokenKind, start_tag, empty_tag, end_tag, char_data, char_ref, entity_ref, cdata_section, comment, pi, declaration, doctype, Spells}
 use Rattle.xt_lex.specs.NameTest.{is_name_byte}
-use Rattle.xt_lex.specs.Scan.{◌>>=◌, maybe, after, after_all, after_chars, cdata_step, comment_step, doctype_step, declared_section, declared, after_target, after_data, instruction, pi_or_declaration, take_while, drop_while, tag, open_tag, tag_or_pi, angle_markup}
+use Rattle.xt_lex.specs.Scan.{◌>>=◌, maybe, after, after_all, after_chars, after_target, after_data, take_while, drop_while, tag, open_tag}
+use Rattle.xt_lex.specs.Markup.{cdata_step, comment_step, doctype_step, declared_section, declared, instruction, pi_or_declaration, tag_or_pi, angle_markup}
 use Rattle.xt_lex.proofs.Attributes.{utf8_rest}
 use Rattle.xt_lex.proofs.Cuts.{after_all_takes, after_chars_takes, after_chars_again, is_fresh, lacks_from_fresh, Stays, fresh_from_lacks}
 use Rattle.xt_lex.proofs.Declarations.{declaration_takes, is_values, values_again, values_target}
 use Rattle.xt_lex.specs.XmlDecl.{declared_values}
-use Rattle.xt_lex.proofs.Doctypes.{doctype_takes, doctype_split, doctype_again}
+use Rattle.xt_lex.proofs.Doctypes.{doctype_takes, doctype_again}
 use Rattle.xt_lex.proofs.NameLemmas.{ncname_passes}
 use Rattle.xt_lex.proofs.Instructions.{target_takes, target_again, data_takes, data_again, data_no_name}
 use Rattle.xt_lex.proofs.References.{pair_parts}
@@ -250,8 +251,8 @@ special_again t r declaration (d, is) s =
     let target = values_target d values.0 r values.1 in
     rw split (xml_again (codes "xml" ++ rest) rest r d target.0 target.1 (values_again d values.0 r values.1))
 special_again t r doctype is s =
-    let split = doctype_split t r is.space is.name is.external is.blank is.brackets is.spelled in
-    ap angle_markup split ∙ doctype_again t r is
+    let (x, behind, found) = doctype_again t r is in
+    ap (λ t. angle_markup (t ++ r)) behind ∙ found
 special_again t r start_tag h s = absurd s
 special_again t r empty_tag h s = absurd s
 special_again t r end_tag h s = absurd s

@@ -19,6 +19,7 @@ use Rattle.xt_lex.specs.declared.declaration.Declaration.{Declaration as Values}
 use Rattle.xt_lex.specs.NameTest.{is_name_byte, name_class}
 use Rattle.xt_lex.specs.Scan.{take_while, drop_while}
 use Rattle.xt_lex.specs.XmlDecl.{equals, word_value, version, encoding, standalone, has_form, declaration_of, declared_values, xml_decl}
+use Rattle.xt_lex.proofs.QNames.{byte_in_class}
 use Rattle.xt_lex.proofs.StepLemmas.{space_no_name}
 
 -- ---- what the tests let pass is ASCII
@@ -184,9 +185,6 @@ unfolding xml_decl
 is_declaration d t is = let values = is_values d t is in (tt, d, codes "<?xml", values.0, refl, values.1, refl, values.2)
 
 -- ---- what the token and the public call need
-
-byte_in_class : (b : ℕ) → is_name_byte b ≡ true → in_class name_class b ≡ true
-byte_in_class b h = grind (arith, nat_tests)
 
 pub declaration_takes : (s : List ℕ) (x : Declaration × List ℕ) → IsUtf8 s → declared_values.read s ≡ Some x → (t : List ℕ) × IsDeclarationOf x.0 t × (codes "<?xml" ++ s ≡ t ++ x.1)
 unfolding xml_decl

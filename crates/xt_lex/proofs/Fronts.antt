@@ -8,7 +8,8 @@ use Rattle.std.specs.Str.{IsUtf8, NonePass}
 use Rattle.xt_spec.specs.Char.{is_char}
 use Rattle.xt_spec.specs.Token.{TokenKind, start_tag, empty_tag, end_tag, char_data, char_ref, entity_ref, cdata_section, comment, pi, declaration, doctype, IsPlain, Spells, BeginsClose, HoldsNoClose, MayStand, IsFront, NoFront, IsLongestFront}
 use Rattle.xt_lex.specs.Data.{IsDelimiter, IsFirstData, is_no_char}
-use Rattle.xt_lex.specs.Scan.{angle_markup, reference, markup}
+use Rattle.xt_lex.specs.Scan.{reference}
+use Rattle.xt_lex.specs.Markup.{angle_markup, markup}
 use Rattle.xt_lex.proofs.DataLemmas.{drop_longer, close_reads}
 use Rattle.xt_lex.proofs.References.{IsFound, pair_parts, reference_takes, reference_again, found_inner}
 use Rattle.xt_lex.proofs.Spelling.{strip}

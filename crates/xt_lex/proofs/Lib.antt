@@ -13,7 +13,7 @@ pub mod DataLemmas
 pub mod Cuts
 pub mod Tags
 pub mod Instructions
-pub mod Quotes
+pub mod QNames
 pub mod Declarations
 pub mod Subsets
 pub mod Doctypes

@@ -8,7 +8,7 @@ use Rattle.std.specs.Str.{IsUtf8, NonePass, IsCharBoundary}
 use Rattle.xt_spec.specs.Char.{is_char}
 use Rattle.xt_spec.specs.Token.{TokenKind, char_data, BeginsClose, NoFront, IsLongestFront}
 use Rattle.xt_lex.specs.Data.{is_no_char, AreFirstChars, IsDelimiter, IsFirstDelimiter, IsFirstClose, IsFirstData}
-use Rattle.xt_lex.specs.Scan.{markup}
+use Rattle.xt_lex.specs.Markup.{markup}
 use Rattle.xt_lex.proofs.DataLemmas.{front_data, close_reads}
 use Rattle.xt_lex.proofs.Fronts.{markup_longest, markup_none, data_longest, data_none}
 

@@ -9,7 +9,7 @@ use Rattle.xt_spec.specs.Doctype.{SubsetPart, literal_part, comment_part, pi_par
 use Rattle.xt_lex.specs.Scan.{◌>>=◌, maybe, take_while, drop_while, after, after_all, cut, quoted, many_in, many, after_first, after_less, after_marked, is_plain_in_subset, after_subset_part}
 use Rattle.xt_lex.proofs.Attributes.{longer}
 use Rattle.xt_lex.proofs.Cuts.{after_all_takes, cut_takes, cut_fresh_again, lacks_from_fresh, Stays, fresh_from_lacks, no_after, after_begins, begins_longer}
-use Rattle.xt_lex.proofs.Quotes.{quoted_takes, quoted_again}
+use Rattle.xt_scan.proofs.Theorems.{any_quoted_takes, any_quoted_again}
 use Rattle.xt_lex.proofs.Instructions.{stays_end}
 use Rattle.xt_lex.proofs.Many.{Shrinks, many_step, many_stop}
 use Rattle.xt_lex.proofs.StepLemmas.{bind_some, take_while_split, after_takes}
@@ -81,7 +81,7 @@ marked_by : (s r : List ℕ) (o : Option (List ℕ)) → after 60 s ≡ o → ma
 marked_by s r None e h =
     let found = bind_some (quoted s) _ _ h in
     let same : found.0.1 ≡ r = cc (found.2) in
-    let is = quoted_takes s found.0.0 found.0.1 found.1 in
+    let is = any_quoted_takes s found.0.0 found.0.1 found.1 in
     let q = is.1.0 in
     (literal_part q found.0.0, is.2 ∙ ap (λ t. t ++ found.0.1) is.1.3 ∙ ap (λ r. ((q ∷ found.0.0) ++ q ∷ []) ++ r) same, λ x y e. (is.1.1, is.1.2))
 marked_by s r (Some rest) e h = subst (λ s. PartFront s r) (sym (after_takes 60 s rest e)) (less_takes rest r h)
@@ -127,10 +127,10 @@ bracket_same (c ∷ cs) (b ∷ bs) r h = ap (λ t. eqb b c && t) (bracket_same c
 literal_again : (q : ℕ) (inner r : List ℕ) → IsQuote q → list_all (λ b. not (eqb b q)) inner ≡ true → after_subset_part (((q ∷ inner) ++ q ∷ []) ++ r) ≡ Some r
 unfolding after_marked
 literal_again q inner r (inl is) h =
-    let found = quoted_again ((34 ∷ inner) ++ 34 ∷ []) inner r (34, inl refl, subst (λ q. list_all (λ b. not (eqb b q)) inner ≡ true) is h, refl) in
+    let found = any_quoted_again inner ((34 ∷ inner) ++ 34 ∷ []) r (34, inl refl, subst (λ q. list_all (λ b. not (eqb b q)) inner ≡ true) is h, refl) in
     rw is (ap (λ o. o >>= λ x. Some x.1) found)
 literal_again q inner r (inr is) h =
-    let found = quoted_again ((39 ∷ inner) ++ 39 ∷ []) inner r (39, inr refl, subst (λ q. list_all (λ b. not (eqb b q)) inner ≡ true) is h, refl) in
+    let found = any_quoted_again inner ((39 ∷ inner) ++ 39 ∷ []) r (39, inr refl, subst (λ q. list_all (λ b. not (eqb b q)) inner ≡ true) is h, refl) in
     rw is (ap (λ o. o >>= λ x. Some x.1) found)
 
 bracketed_split : (front inner ending r : List ℕ) → (front ++ inner ++ ending) ++ r ≡ front ++ (inner ++ (ending ++ r))

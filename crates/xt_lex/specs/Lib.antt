@@ -6,3 +6,6 @@ pub mod Data
 pub mod Place
 pub mod DeclaredValues
 pub mod XmlDecl
+pub mod QName
+pub mod DoctypeDecl
+pub mod Markup

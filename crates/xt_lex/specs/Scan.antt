@@ -1,17 +1,16 @@
 -- Reading from the front of a text: what each step leaves, or none. A text is the list of its bytes.
-use Rattle.std.specs.Prelude.{zero, suc, ◌||◌, ◌&&◌, ℕ, length, not, Bool, true, false, ◌==◌, List, [], ◌∷◌, codes, bytes_eq, Option, Some, None, if◌then◌else◌}
+use Rattle.std.specs.Prelude.{zero, suc, ◌||◌, ◌&&◌, ℕ, length, not, Bool, true, false, ◌==◌, List, [], ◌∷◌, codes, Option, Some, None, if◌then◌else◌}
 use Rattle.std.specs.Str.{chars}
 use Rattle.std.specs.List.{list_all}
 use Rattle.xt_spec.specs.Char.{is_space, is_char}
 use Rattle.xt_spec.specs.Name.{are_ncname_chars}
 use Rattle.xt_spec.specs.Reference.{is_decimal_digit, is_hexadecimal_digit, number_behind}
-use Rattle.xt_spec.specs.Doctype.{is_pubid_char, is_quote_or_end}
+use Rattle.xt_spec.specs.Doctype.{is_quote_or_end}
 use Rattle.xt_spec.specs.Markup.{is_reserved}
-use Rattle.xt_spec.specs.Token.{TokenKind, start_tag, empty_tag, end_tag, char_ref, entity_ref, cdata_section, comment, pi, declaration, doctype}
+use Rattle.xt_spec.specs.Token.{TokenKind, start_tag, empty_tag, end_tag, char_ref, entity_ref}
 use Rattle.xt_scan.specs.Form.{read_quoted}
 pub use Rattle.xt_scan.specs.Step.{◌>>=◌, take_while, drop_while, after_all}
 use Rattle.xt_lex.specs.NameTest.{is_name_byte, qname}
-use Rattle.xt_lex.specs.XmlDecl.{declared_values}
 
 abbrev pub maybe : {A B : Type 0} → B → (A → B) → Option A → B
 maybe none some None = none
@@ -153,42 +152,9 @@ are_chars text = list_all is_char (chars text)
 unfoldable pub after_chars : List ℕ → List ℕ → Option (List ℕ)
 after_chars needle text = cut needle text >>= λ x. if are_chars x.0 then Some x.1 else None
 
--- behind `<![CDATA[`
-abbrev pub cdata_step : List ℕ → Option (TokenKind × List ℕ)
-cdata_step text = after_chars (codes "]]>") text >>= λ r. Some (cdata_section, r)
-
--- behind `<!--`
-abbrev pub comment_step : List ℕ → Option (TokenKind × List ℕ)
-comment_step text = after_chars (codes "--") text >>= λ s. after 0x3E s >>= λ r. Some (comment, r)
-
 -- what stands between quotes, and what follows them
 abbrev pub quoted : List ℕ → Option (List ℕ × List ℕ)
 quoted = read_quoted
-
--- behind a literal of Chars, and of PubidChars
-abbrev pub after_system_literal : List ℕ → Option (List ℕ)
-after_system_literal text = quoted text >>= λ x. if are_chars x.0 then Some x.1 else None
-
-abbrev pub after_pubid_literal : List ℕ → Option (List ℕ)
-after_pubid_literal text = quoted text >>= λ x. if list_all is_pubid_char x.0 then Some x.1 else None
-
--- behind `SYSTEM`, and behind `PUBLIC`
-abbrev pub after_system : List ℕ → Option (List ℕ)
-after_system text = after_space text >>= after_system_literal
-
-abbrev pub after_public : List ℕ → Option (List ℕ)
-after_public text = after_space text >>= λ p. after_pubid_literal p >>= after_system
-
--- what follows an external identifier
-unfoldable pub after_external_id : List ℕ → Option (List ℕ)
-after_external_id text = maybe (after_all (codes "PUBLIC") text >>= after_public) after_system (after_all (codes "SYSTEM") text)
-
-abbrev pub spaced_external_id : List ℕ → Option (List ℕ)
-spaced_external_id text = after_space text >>= after_external_id
-
--- what follows S and an external identifier, where they stand
-unfoldable pub after_external : List ℕ → List ℕ
-after_external text = maybe text (λ r. r) (spaced_external_id text)
 
 -- what follows the needle where it first stands
 abbrev pub after_first : List ℕ → List ℕ → Option (List ℕ)
@@ -211,27 +177,9 @@ abbrev pub after_subset_part : List ℕ → Option (List ℕ)
 after_subset_part [] = None
 after_subset_part (b ∷ bs) = if is_plain_in_subset b then Some bs else after_marked (b ∷ bs)
 
--- behind `[`: what follows the brackets and optional white space
-abbrev pub after_subset : List ℕ → Option (List ℕ)
-after_subset text = after 0x5D (many after_subset_part text) >>= λ r. Some (drop_while is_space r)
-
--- what follows brackets, where they stand
-unfoldable pub after_brackets : List ℕ → Option (List ℕ)
-after_brackets text = maybe (Some text) after_subset (after 0x5B text)
-
--- behind `<!DOCTYPE`
-unfoldable pub doctype_step : List ℕ → Option (TokenKind × List ℕ)
-doctype_step text =
-    after_space text >>= λ n. after_qname n >>= λ e. after_brackets (drop_while is_space (after_external e)) >>= λ c. after 0x3E c
-    >>= λ r. Some (doctype, r)
-
--- behind `<!`, where no `--` stands
-unfoldable pub declared_section : List ℕ → Option (TokenKind × List ℕ)
-declared_section text = maybe (after_all (codes "DOCTYPE") text >>= doctype_step) cdata_step (after_all (codes "[CDATA[") text)
-
--- behind `<!`
-unfoldable pub declared : List ℕ → Option (TokenKind × List ℕ)
-declared text = maybe (declared_section text) comment_step (after_all (codes "--") text)
+-- what follows a subset in brackets
+abbrev pub after_bracketed : List ℕ → Option (List ℕ)
+after_bracketed text = after 0x5B text >>= λ s. after 0x5D (many after_subset_part s)
 
 -- what follows the target of a PI
 abbrev pub after_target : List ℕ → Option (List ℕ)
@@ -241,25 +189,3 @@ after_target text =
 -- behind the target: what follows the end
 unfoldable pub after_data : List ℕ → Option (List ℕ)
 after_data text = maybe (after_space text >>= λ d. after_chars (codes "?>") text) Some (after_all (codes "?>") text)
-
--- behind `<?`
-abbrev pub instruction : List ℕ → Option (TokenKind × List ℕ)
-instruction text = after_target text >>= λ s. after_data s >>= λ r. Some (pi, r)
-
--- behind `<?`: a declaration, where the target is `xml`; else a PI
-unfoldable pub pi_or_declaration : List ℕ → Option (TokenKind × List ℕ)
-pi_or_declaration text =
-    if bytes_eq (take_while is_name_byte text) (codes "xml") then (declared_values.read (drop_while is_name_byte text) >>= λ x. Some (declaration, x.1)) else instruction text
-
--- a token that begins with `<`, and not with `<!`
-unfoldable pub tag_or_pi : List ℕ → Option (TokenKind × List ℕ)
-tag_or_pi text = maybe (tag text) pi_or_declaration (after_all (codes "<?") text)
-
--- a token that begins with `<`
-unfoldable pub angle_markup : List ℕ → Option (TokenKind × List ℕ)
-angle_markup text = maybe (tag_or_pi text) declared (after_all (codes "<!") text)
-
--- a token that begins with `<` or `&`
-abbrev pub markup : List ℕ → Option (TokenKind × List ℕ)
-markup [] = None
-markup (b ∷ bs) = if b == 0x3C then angle_markup (b ∷ bs) else (if b == 0x26 then reference (b ∷ bs) else None)

@@ -1,17 +1,20 @@
 //! The DOCTYPE declaration. Of its subset only the end is found here.
 
-ghost use Rattle.std.specs.Prelude.{◌≡◌, option_map, true};
+ghost use Rattle.std.specs.Prelude.{◌≡◌, Some, option_map, true};
 ghost use Rattle.std.specs.List.{list_all, prefix_len};
 ghost use Rattle.std.specs.Option.{option_copied};
 ghost use Rattle.xt_spec.specs.Doctype as spec;
+ghost use Rattle.xt_scan.specs.Form.{space, ◌>>>◌};
+ghost use Rattle.xt_lex.specs.DoctypeDecl as form;
 ghost use Rattle.xt_lex.specs.Fast.{is_ending};
 ghost use Rattle.xt_lex.specs.Kinds.{kind_of};
-ghost use Rattle.xt_lex.specs.Scan.{drop_while, many, after_system_literal, after_pubid_literal, after_system, after_public, after_external_id, spaced_external_id, after_external, after_first, after_less, after_marked, is_plain_in_subset, after_subset_part, after_subset, after_brackets, doctype_step};
+ghost use Rattle.xt_lex.specs.Scan.{drop_while, many, after_first, after_less, after_marked, is_plain_in_subset, after_subset_part, after_bracketed};
+ghost use Rattle.xt_lex.specs.Markup.{doctype_step};
 
 use crate::data::are_chars;
-use crate::front::{after, after_all, after_qname, after_space, cut};
+use crate::front::{after, after_all, cut, q_name};
 use crate::token::Kind;
-use xt_scan::{after_blank, quoted};
+use xt_scan::{after_blank, after_space, after_word, quoted};
 
 fn is_pubid_char(b: u8) -> bool
     ensures { result ≡ spec.is_pubid_char b }
@@ -25,68 +28,72 @@ fn are_pubid_chars(bytes: &[u8]) -> bool
     bytes.iter().all(|b| is_pubid_char(*b))
 }
 
-/// What follows a literal of Chars.
-fn after_system_literal(text: &str) -> Option<&str>
-    ensures { option_copied result ≡ after_system_literal text.now }
+/// A literal of Chars without its quotes, and what follows it.
+#[tactic(auto, unfolding(crate::specs::DoctypeDecl::system_literal))]
+fn system_literal(text: &str) -> Option<(&str, &str)>
+    ensures { option_map (λ x. (x.0.now, x.1.now)) result ≡ form.system_literal.read text.now }
 {
     let (inner, rest) = quoted(text)?;
-    if are_chars(inner) { Some(rest) } else { None }
-}
-
-/// What follows a literal of a public identifier.
-fn after_pubid_literal(text: &str) -> Option<&str>
-    ensures { option_copied result ≡ after_pubid_literal text.now }
-{
-    let (inner, rest) = quoted(text)?;
-    if are_pubid_chars(inner.as_bytes()) {
-        Some(rest)
+    if are_chars(inner) {
+        Some((inner, rest))
     } else {
         None
     }
 }
 
-/// Behind `SYSTEM`.
-fn after_system(text: &str) -> Option<&str>
-    ensures { option_copied result ≡ after_system text.now }
+/// A literal of a public identifier without its quotes, and what follows it.
+#[tactic(auto, unfolding(crate::specs::DoctypeDecl::pubid_literal))]
+fn pubid_literal(text: &str) -> Option<(&str, &str)>
+    ensures { option_map (λ x. (x.0.now, x.1.now)) result ≡ form.pubid_literal.read text.now }
 {
-    let rest = after_space(text)?;
-    after_system_literal(rest)
+    let (inner, rest) = quoted(text)?;
+    if are_pubid_chars(inner.as_bytes()) {
+        Some((inner, rest))
+    } else {
+        None
+    }
 }
 
-/// Behind `PUBLIC`.
-fn after_public(text: &str) -> Option<&str>
-    ensures { option_copied result ≡ after_public text.now }
+/// What follows `SYSTEM` and its literal.
+#[tactic(auto, unfolding(crate::specs::DoctypeDecl::system_id))]
+fn after_system_id(text: &str) -> Option<&str>
+    ensures { option_map (λ x. (tt, x.now)) result ≡ form.system_id.read text.now }
 {
-    let rest = after_space(text)?;
-    let rest = after_pubid_literal(rest)?;
-    after_system(rest)
+    let (_, rest) = system_literal(after_space(after_word("SYSTEM", text)?)?)?;
+    Some(rest)
+}
+
+/// What follows `PUBLIC` and its two literals.
+#[tactic(auto, unfolding(crate::specs::DoctypeDecl::public_id))]
+fn after_public_id(text: &str) -> Option<&str>
+    ensures { option_map (λ x. (tt, x.now)) result ≡ form.public_id.read text.now }
+{
+    let (_, rest) = pubid_literal(after_space(after_word("PUBLIC", text)?)?)?;
+    let (_, rest) = system_literal(after_space(rest)?)?;
+    Some(rest)
 }
 
 /// What follows an external identifier.
-#[tactic(auto, unfolding(crate::specs::Scan::after_external_id))]
+#[tactic(auto, unfolding(crate::specs::DoctypeDecl::external_id))]
 fn after_external_id(text: &str) -> Option<&str>
-    ensures { option_copied result ≡ after_external_id text.now }
+    ensures { option_map (λ x. (tt, x.now)) result ≡ form.external_id.read text.now }
 {
-    match after_all("SYSTEM", text) {
-        Some(rest) => after_system(rest),
-        None => {
-            let rest = after_all("PUBLIC", text)?;
-            after_public(rest)
-        }
+    match after_system_id(text) {
+        Some(rest) => Some(rest),
+        None => after_public_id(text),
     }
 }
 
 fn spaced_external_id(text: &str) -> Option<&str>
-    ensures { option_copied result ≡ spaced_external_id text.now }
+    ensures { option_map (λ x. (tt, x.now)) result ≡ (space >>> form.external_id).read text.now }
 {
-    let rest = after_space(text)?;
-    after_external_id(rest)
+    after_external_id(after_space(text)?)
 }
 
 /// What follows white space and an external identifier, where they stand.
-#[tactic(auto, unfolding(crate::specs::Scan::after_external))]
+#[tactic(auto, unfolding(crate::specs::DoctypeDecl::external))]
 fn after_external(text: &str) -> &str
-    ensures { result.now ≡ after_external text.now }
+    ensures { Some (tt, result.now) ≡ form.external.read text.now }
 {
     match spaced_external_id(text) {
         Some(rest) => rest,
@@ -161,33 +168,40 @@ fn after_parts(text: &str) -> &str
     rest
 }
 
-/// Behind `[`: what follows the brackets and optional white space.
-fn after_subset(text: &str) -> Option<&str>
-    ensures { option_copied result ≡ after_subset text.now }
+/// What follows a subset in brackets.
+fn after_bracketed(text: &str) -> Option<&str>
+    ensures { option_copied result ≡ after_bracketed text.now }
 {
-    let rest = after(']', after_parts(text))?;
-    Some(after_blank(rest))
+    let subset = after('[', text)?;
+    after(']', after_parts(subset))
 }
 
-/// What follows the brackets, where they stand.
-#[tactic(auto, unfolding(crate::specs::Scan::after_brackets))]
-fn after_brackets(text: &str) -> Option<&str>
-    ensures { option_copied result ≡ after_brackets text.now }
+/// What follows the brackets and optional white space, where they stand.
+#[tactic(auto, unfolding(crate::specs::DoctypeDecl::brackets, crate::specs::DoctypeDecl::bracketed))]
+fn after_brackets(text: &str) -> &str
+    ensures { Some (tt, result.now) ≡ form.brackets.read text.now }
 {
-    match after('[', text) {
-        Some(rest) => after_subset(rest),
-        None => Some(text),
+    match after_bracketed(text) {
+        Some(rest) => after_blank(rest),
+        None => text,
     }
 }
 
+/// Behind `<!DOCTYPE`: the name, and what follows the declaration.
+#[tactic(auto, unfolding(crate::specs::DoctypeDecl::doctype_decl))]
+fn doctype_decl(text: &str) -> Option<(&str, &str)>
+    ensures { option_map (λ x. (x.0.now, x.1.now)) result ≡ form.doctype_decl.read text.now }
+{
+    let (name, rest) = q_name(after_space(text)?)?;
+    let rest = after_brackets(after_blank(after_external(rest)));
+    Some((name, after_word(">", rest)?))
+}
+
 /// Behind `<!DOCTYPE`: what follows the declaration.
-#[tactic(auto, unfolding(crate::specs::Scan::doctype_step))]
+#[tactic(auto, unfolding(crate::specs::Markup::doctype_step))]
 pub(crate) fn doctype(text: &str) -> Option<(Kind, &str)>
     ensures { option_map (λ x. (kind_of x.0, x.1.now)) result ≡ doctype_step text.now }
 {
-    let rest = after_space(text)?;
-    let rest = after_qname(rest)?;
-    let rest = after_brackets(after_blank(after_external(rest)))?;
-    let rest = after('>', rest)?;
+    let (_, rest) = doctype_decl(text)?;
     Some((Kind::Doctype, rest))
 }

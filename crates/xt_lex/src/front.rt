@@ -7,6 +7,7 @@ ghost use Rattle.xt_spec.specs.Char.{is_space};
 ghost use Rattle.xt_lex.specs.Fast.{is_ending};
 ghost use Rattle.xt_lex.specs.Scan.{after_space, take_while, drop_while, after, after_all, cut, after_qname, after_ncname};
 ghost use Rattle.xt_lex.specs.NameTest.{is_name_byte};
+ghost use Rattle.xt_lex.specs.QName as form;
 
 use crate::chars::{is_name_byte, is_space};
 use crate::names::{is_ncname, is_qname};
@@ -81,4 +82,17 @@ pub(crate) fn after_ncname(text: &str) -> Option<&str>
 {
     let (name, rest) = split_name(text);
     if is_ncname(name) { Some(rest) } else { None }
+}
+
+/// A QName, and what follows it.
+#[tactic(auto, unfolding(crate::specs::QName::q_name))]
+pub(crate) fn q_name(text: &str) -> Option<(&str, &str)>
+    ensures { option_map (λ x. (x.0.now, x.1.now)) result ≡ form.q_name.read text.now }
+{
+    let (name, rest) = split_name(text);
+    if is_qname(name) {
+        Some((name, rest))
+    } else {
+        None
+    }
 }

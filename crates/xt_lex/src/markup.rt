@@ -3,7 +3,8 @@
 ghost use Rattle.std.specs.Prelude.{◌≡◌, option_map, true};
 ghost use Rattle.std.specs.Option.{option_copied};
 ghost use Rattle.xt_spec.specs.Markup.{is_reserved};
-ghost use Rattle.xt_lex.specs.Scan.{after_chars, cdata_step, comment_step, declared_section, declared, after_target, after_data, instruction, pi_or_declaration, tag_or_pi, angle_markup};
+ghost use Rattle.xt_lex.specs.Scan.{after_chars, after_target, after_data};
+ghost use Rattle.xt_lex.specs.Markup.{cdata_step, comment_step, declared_section, declared, instruction, pi_or_declaration, tag_or_pi, angle_markup};
 ghost use Rattle.xt_lex.specs.Kinds.{kind_of};
 ghost use Rattle.xt_lex.specs.Fast.{is_ending};
 
@@ -43,7 +44,7 @@ fn cdata_section(text: &str) -> Option<(Kind, &str)>
 }
 
 /// Behind `<!`, where no `--` stands.
-#[tactic(auto, unfolding(crate::specs::Scan::declared_section))]
+#[tactic(auto, unfolding(crate::specs::Markup::declared_section))]
 fn declared_section(text: &str) -> Option<(Kind, &str)>
     ensures { option_map (λ x. (kind_of x.0, x.1.now)) result ≡ declared_section text.now }
 {
@@ -57,7 +58,7 @@ fn declared_section(text: &str) -> Option<(Kind, &str)>
 }
 
 /// Behind `<!`: the kind of the token, and what follows it.
-#[tactic(auto, unfolding(crate::specs::Scan::declared))]
+#[tactic(auto, unfolding(crate::specs::Markup::declared))]
 fn declared(text: &str) -> Option<(Kind, &str)>
     ensures { option_map (λ x. (kind_of x.0, x.1.now)) result ≡ declared text.now }
 {
@@ -110,7 +111,7 @@ fn instruction(text: &str) -> Option<(Kind, &str)>
 }
 
 /// Behind `<?`: a declaration, where the target is `xml`, or a PI; and what follows it.
-#[tactic(auto, unfolding(crate::specs::Scan::pi_or_declaration))]
+#[tactic(auto, unfolding(crate::specs::Markup::pi_or_declaration))]
 fn pi_or_declaration(text: &str) -> Option<(Kind, &str)>
     ensures { option_map (λ x. (kind_of x.0, x.1.now)) result ≡ pi_or_declaration text.now }
 {
@@ -124,7 +125,7 @@ fn pi_or_declaration(text: &str) -> Option<(Kind, &str)>
 }
 
 /// A token that begins with `<`, and not with `<!`, and what follows it.
-#[tactic(auto, unfolding(crate::specs::Scan::tag_or_pi))]
+#[tactic(auto, unfolding(crate::specs::Markup::tag_or_pi))]
 fn tag_or_pi(text: &str) -> Option<(Kind, &str)>
     ensures { option_map (λ x. (kind_of x.0, x.1.now)) result ≡ tag_or_pi text.now }
 {
@@ -135,7 +136,7 @@ fn tag_or_pi(text: &str) -> Option<(Kind, &str)>
 }
 
 /// A token that begins with `<`, and what follows it.
-#[tactic(auto, unfolding(crate::specs::Scan::angle_markup))]
+#[tactic(auto, unfolding(crate::specs::Markup::angle_markup))]
 pub(crate) fn angle_markup(text: &str) -> Option<(Kind, &str)>
     ensures { option_map (λ x. (kind_of x.0, x.1.now)) result ≡ angle_markup text.now }
 {

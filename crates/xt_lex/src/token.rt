@@ -5,7 +5,7 @@ ghost use Rattle.std.specs.Str.{IsCharBoundary};
 ghost use Rattle.xt_spec.specs.Token.{NoFront, IsLongestFront};
 ghost use Rattle.xt_lex.specs.Data.{IsDelimiter};
 ghost use Rattle.xt_lex.specs.Kinds.{kind_of};
-ghost use Rattle.xt_lex.specs.Scan.{markup};
+ghost use Rattle.xt_lex.specs.Markup.{markup};
 
 use crate::data::data_len;
 use crate::markup::angle_markup;

@@ -12,7 +12,7 @@ use Rattle.xt_spec.specs.Tag.{IsBlank, IsSpace, IsQuote}
 use Rattle.xt_spec.specs.Declaration.{IsQuoted}
 use Rattle.xt_scan.specs.Look.{Span, from_to, in_class, Look, sees_behind, sees, solid_in, spaced_any, spaced_by}
 use Rattle.xt_scan.specs.Step.{take_while, drop_while, after_all}
-use Rattle.xt_scan.specs.Form.{word, blank, read_space, space, piece, is_letter, letters, is_among, keyword, read_to_quote, read_quoted, tested, quoted, quoted_text, quoted_ascii, first_of_word}
+use Rattle.xt_scan.specs.Form.{word, blank, read_space, space, piece, is_letter, letters, is_among, keyword, read_to_quote, read_quoted, tested, quoted, quoted_text, quoted_ascii, step, first_of_word}
 use Rattle.xt_scan.proofs.Looks.{spaced_sees, not_spaced}
 use Rattle.xt_scan.proofs.Steps.{bind_some, take_while_split, take_while_passes, Stops, take_while_again, stops_at, after_all_takes, after_all_again, ascii, ascii_take_while, all_weaker, blank_utf8, utf8_behind}
 use Rattle.xt_scan.proofs.Laws.{Leads, Begins, Lawful, tested_some}
@@ -365,3 +365,31 @@ lawful_quoted_text test = lawful_quoted test (λ t. IsUtf8 t × IsTrue (test t))
 
 pub lawful_quoted_ascii : (test : List ℕ → Bool) → ((t : List ℕ) → test t ≡ true → list_all (λ b. ltb b 128) t ≡ true) → Lawful (quoted_ascii test)
 lawful_quoted_ascii test small = lawful_quoted test (λ t. IsTrue (test t)) (record { from = λ t u h. h; to = λ t h. h; utf8 = λ t h. ascii t (small t h) })
+
+-- ---- what another reader reads
+
+pub record IsStep (Is : List ℕ → Type 0) (after : List ℕ → Option (List ℕ)) (c : List Span) : Type 0 where
+  pub takes : (s r : List ℕ) → IsUtf8 s → after s ≡ Some r → (t : List ℕ) × Is t × (s ≡ t ++ r)
+  pub again : (t r : List ℕ) → Is t → after (t ++ r) ≡ Some r
+  pub begins : (s r : List ℕ) → after s ≡ Some r → sees (solid_in c) s ≡ true
+  pub utf8 : (t : List ℕ) → Is t → IsUtf8 t
+
+module _ (Is : List ℕ → Type 0) (after : List ℕ → Option (List ℕ)) (c : List Span) (is : IsStep Is after c) where
+  -- nothing is no step: it would begin in front of nothing
+  step_some : (t : List ℕ) → Is t → t ≢ []
+  step_some t spells n =
+      let bad : false ≡ true = is.begins [] [] (subst (λ t. after (t ++ []) ≡ Some []) n (is.again t [] spells)) in
+      absurd (cc)
+
+  pub lawful_step : Lawful (step Is after c)
+  lawful_step = record {
+    takes = λ s v r u h.
+        let x = bind_some (after s) _ _ h in
+        let same : ◌≡◌ {A = Unit {0} × List ℕ} (tt, x.0) (v, r) = cc (x.2) in
+        let one = is.takes s x.0 u x.1 in
+        (one.0, one.1, one.2 ∙ ap (λ r. one.0 ++ r) (ap (λ p. p.1) same));
+    again = λ v t r s out. let found = is.again t r s in rw found refl;
+    begins = λ s v r h. let x = bind_some (after s) _ _ h in inr (λ l i. is.begins s x.0 x.1);
+    leads = λ v t s. inr (step_some t s, λ l r i. is.begins (t ++ r) r (is.again t r s));
+    utf8 = λ v t s. is.utf8 t s;
+  }

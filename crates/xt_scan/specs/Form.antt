@@ -2,6 +2,7 @@
 --
 --   Form    of a value: the texts that spell it, how it is read, and what may not stand behind it
 --   word, blank, space, piece, quoted    what forms are made of
+--   step    what is no sequence, by a reader of its own
 --   ◌>>>◌, ◌<<<◌, ◌&◌   one behind another: the value of the second, of the first, of both
 --   either_of, maybe, many, given        one or the other; it or nothing; any number; another value for it
 use Rattle.std.specs.Prelude.{◌≡◌, ℕ, ◌-◌, length, take, Bool, true, false, not, ◌&&◌, ◌||◌, ◌==◌, IsTrue, List, [], ◌∷◌, ◌++◌, Option, Some, None, ◌⊎◌, bytes_eq, IsUtf8, if◌then◌else◌}
@@ -122,6 +123,16 @@ quoted_text test = quoted test (λ t. IsUtf8 t × IsTrue (test t))
 -- what passes the test, in quotes
 abbrev pub quoted_ascii : (List ℕ → Bool) → Form (List ℕ)
 quoted_ascii test = quoted test (λ t. IsTrue (test t))
+
+-- what another reader reads: some bytes, the first of such a class, and whatever may stand behind
+abbrev pub step : (List ℕ → Type 0) → (List ℕ → Option (List ℕ)) → List Span → Form (Unit {0})
+step Is after c = record {
+  Spells = λ v t. Is t;
+  read = λ s. after s >>= λ r. Some (tt, r);
+  null = false;
+  front = λ l. solid_in c;
+  bars = nothing;
+}
 
 -- one behind the other
 abbrev pub both : {A B C : Type 0} → (A → B → C) → Form A → Form B → Form C
