@@ -8,7 +8,9 @@ use Rattle.xt_spec.specs.Declaration.{Declaration}
 use Rattle.xt_spec.specs.Markup.{begins, lacks, is_reserved}
 use Rattle.xt_spec.specs.Token.{TokenKind, start_tag, empty_tag, end_tag, char_data, char_ref, entity_ref, cdata_section, comment, pi, declaration, doctype, Spells}
 use Rattle.xt_lex.specs.NameTest.{is_name_byte}
-use Rattle.xt_lex.specs.Scan.{◌>>=◌, maybe, after, after_all, after_chars, after_target, after_data, take_while, drop_while, tag, open_tag}
+use Rattle.xt_lex.specs.QName.{q_name}
+use Rattle.xt_lex.specs.Tag.{tag, open_tag, closing_tag}
+use Rattle.xt_lex.specs.Scan.{◌>>=◌, maybe, after, after_all, after_chars, after_target, after_data, take_while, drop_while}
 use Rattle.xt_lex.specs.Markup.{cdata_step, comment_step, doctype_step, declared_section, declared, instruction, pi_or_declaration, tag_or_pi, angle_markup}
 use Rattle.xt_lex.proofs.Attributes.{utf8_rest}
 use Rattle.xt_lex.proofs.Cuts.{after_all_takes, after_chars_takes, after_chars_again, is_fresh, lacks_from_fresh, Stays, fresh_from_lacks}
@@ -153,7 +155,7 @@ pi_or_declaration_takes s r k u h =
       | inr e ↦ instruction_takes s r k u (rw e at h)
     ]
 
-tag_or_pi_by : (s r : List ℕ) (k : TokenKind) (o : Option (List ℕ)) → IsUtf8 s → after_all (codes "<?") s ≡ o → maybe (tag s) pi_or_declaration o ≡ Some (k, r) → (t : List ℕ) × (s ≡ t ++ r) × Spells k t × IsAngleMarkup k
+tag_or_pi_by : (s r : List ℕ) (k : TokenKind) (o : Option (List ℕ)) → IsUtf8 s → after_all (codes "<?") s ≡ o → maybe (tag.read s) pi_or_declaration o ≡ Some (k, r) → (t : List ℕ) × (s ≡ t ++ r) × Spells k t × IsAngleMarkup k
 tag_or_pi_by s r k None u e h =
     let found = tag_takes s r k u h in
     (found.0, found.1, found.2, inl found.3)
@@ -178,12 +180,12 @@ unfolding angle_markup
 angle_markup_takes s r k u h = angle_markup_by s r k (after_all (codes "<!") s) u refl h
 
 -- no tag begins so
-no_tag_declared : (x : List ℕ) → tag (codes "<!" ++ x) ≡ None
-unfolding tag open_tag
+no_tag_declared : (x : List ℕ) → tag.read (codes "<!" ++ x) ≡ None
+unfolding tag closing_tag open_tag q_name
 no_tag_declared x = rw chars-nil refl
 
-no_tag_at_pi : (x : List ℕ) → tag (codes "<?" ++ x) ≡ None
-unfolding tag open_tag
+no_tag_at_pi : (x : List ℕ) → tag.read (codes "<?" ++ x) ≡ None
+unfolding tag closing_tag open_tag q_name
 no_tag_at_pi x = rw chars-nil refl
 
 -- where no token of the other step begins so, this one's is found
@@ -198,13 +200,13 @@ begins_by s (Some y) e = inr (y, after_all_takes (codes "<!") s y e)
 begins_cases : (s : List ℕ) → (after_all (codes "<!") s ≡ None) ⊎ ((y : List ℕ) × (s ≡ codes "<!" ++ y))
 begins_cases s = begins_by s (after_all (codes "<!") s) refl
 
-angle_markup_tag : (s r : List ℕ) (k : TokenKind) → tag s ≡ Some (k, r) → angle_markup s ≡ Some (k, r)
+angle_markup_tag : (s r : List ℕ) (k : TokenKind) → tag.read s ≡ Some (k, r) → angle_markup s ≡ Some (k, r)
 unfolding angle_markup tag_or_pi
 angle_markup_tag s r k h =
-    let inner : maybe (tag s) pi_or_declaration (after_all (codes "<?") s) ≡ Some (k, r) = found_first (codes "<?") s (tag s) pi_or_declaration (k, r) (after_all (codes "<?") s) (λ y e. ap tag e ∙ no_tag_at_pi y) h refl in
+    let inner : maybe (tag.read s) pi_or_declaration (after_all (codes "<?") s) ≡ Some (k, r) = found_first (codes "<?") s (tag.read s) pi_or_declaration (k, r) (after_all (codes "<?") s) (λ y e. ap tag.read e ∙ no_tag_at_pi y) h refl in
     elim (begins_cases s) [
       | inl none ↦ rw none inner
-      | inr (y, e) ↦ let bad : tag s ≡ None = ap tag e ∙ no_tag_declared y in absurd (cc)
+      | inr (y, e) ↦ let bad : tag.read s ≡ None = ap tag.read e ∙ no_tag_declared y in absurd (cc)
     ]
 
 again_behind : (t front inner ending r : List ℕ) → t ≡ front ++ inner ++ ending → t ++ r ≡ front ++ (inner ++ (ending ++ r))

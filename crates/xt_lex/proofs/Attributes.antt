@@ -1,32 +1,127 @@
--- Attributes: what the step finds is spelled so, and what is spelled so it finds.
-use Rattle.std.proofs.Common.{◌≡◌, ◌≢◌, ℕ, ◌<◌, ◌≤◌, List, [], ◌∷◌, ◌++◌, length, true, false, refl, ap, sym, subst, ◌∙◌, arith, inl, inr, Some, None, codes, append_assoc, map}
-use Rattle.std.proofs.lemmas.Bool.{both_ways, cases_Bool, and_parts, and_from}
-use Rattle.std.proofs.lemmas.List.{length-append}
+-- Attributes: their form is lawful, and says what the standard says; what stands before and behind each part of one.
+use Rattle.std.proofs.Common.{◌≡◌, ℕ, ◌<◌, length, Option, List, [], ◌∷◌, ◌++◌, ◌||◌, true, eqb, refl, ap, sym, subst, ◌∙◌, inl, inr, Some, None, eqb-true, append_assoc, map}
+use Rattle.std.proofs.lemmas.Bool.{cases_Bool, and_parts, or_cases}
 use Rattle.std.specs.List.{AllByRecursion, concat}
 use Rattle.std.specs.Str.{IsUtf8}
-use Rattle.std.proofs.lemmas.Str.{chars-nil, IsUtf8-append, IsUtf8-nil}
 use Rattle.xt_spec.specs.Char.{is_space}
 use Rattle.xt_spec.specs.Name.{IsQName}
-use Rattle.xt_spec.specs.Tag.{IsBlank, IsSpace, Attribute, attribute_text, IsAttribute}
-use Rattle.xt_lex.specs.NameTest.{is_name_byte, qname}
-use Rattle.xt_lex.specs.Scan.{take_while, drop_while, after, after_qname, after_space, after_quoted, Rests, attribute_rests, attribute}
-use Rattle.xt_lex.proofs.Many.{Shrinks}
-use Rattle.xt_lex.proofs.NameLemmas.{qname_nonempty, qname_bytes}
-use Rattle.xt_lex.proofs.StepLemmas.{bind_some, take_while_split, take_while_passes, drop_while_append, after_takes, after_qname_takes, space_no_name, name_in_tag_again, utf8_behind}
-use Rattle.xt_lex.proofs.Utf8.{blank_utf8, qname_utf8, ascii}
-use Rattle.xt_lex.proofs.Values.{drop_while_shorter, quoted_takes, quoted_again, quoted_utf8, quoted_shorter}
+use Rattle.xt_spec.specs.Tag.{IsSpace, Attribute, attribute_text, IsAttribute, IsAttValue}
+use Rattle.xt_scan.specs.Form.{space, ManySpell}
+use Rattle.xt_scan.specs.Front.{rest_of}
+use Rattle.xt_scan.specs.Step.{many_read}
+use Rattle.xt_scan.specs.Look.{from_to, sees, solid_in}
+use Rattle.xt_scan.proofs.Theorems.{Lawful, lawful_blank, lawful_both, lawful_given, lawful_space, lawful_spelled, lawful_step, lawful_word, many_end, many_step, sees_nothing, taken}
+use Rattle.xt_lex.specs.QName.{q_name}
+use Rattle.xt_lex.specs.Scan.{after_quoted}
+use Rattle.xt_lex.specs.Tag.{att_value, attribute_of, attribute, Rests, attribute_rests}
+use Rattle.xt_lex.specs.XmlDecl.{equals}
+use Rattle.xt_lex.proofs.Declarations.{equals_is, is_equals}
+use Rattle.xt_lex.proofs.QNames.{lawful_q_name}
+use Rattle.xt_lex.proofs.StepLemmas.{bind_some}
+use Rattle.xt_lex.proofs.Values.{quoted_takes, quoted_again, quoted_utf8}
 pub use Rattle.xt_scan.proofs.Theorems.{utf8_rest}
 
-pub space_takes : (s r : List ℕ) → after_space s ≡ Some r → (p : List ℕ) × IsSpace p × (s ≡ p ++ r)
-space_takes [] r h = absurd (cc)
-space_takes (b ∷ bs) r h =
-    elim (cases_Bool (is_space b)) [
-      | inl e ↦
-          let rest : Some (drop_while is_space bs) ≡ Some r = rw e at h in
-          let same : drop_while is_space bs ≡ r = cc in
-          (b ∷ take_while is_space bs, (and_from _ _ e (take_while_passes is_space bs), λ n. absurd (cc)), ap (λ t. b ∷ t) (take_while_split is_space bs ∙ ap (λ t. take_while is_space bs ++ t) same))
+-- ---- lawful
+
+value_begins : (s r : List ℕ) → after_quoted s ≡ Some r → sees (solid_in (from_to 0x22 0x22 ∷ from_to 0x27 0x27 ∷ [])) s ≡ true
+value_begins [] r h = absurd (cc)
+value_begins (b ∷ bs) r h =
+    elim (cases_Bool (eqb b 34 || eqb b 39)) [
+      | inl e ↦ elim (or_cases _ _ e) [
+        | inl is ↦ let same = eqb-true b 34 is in rw same refl
+        | inr is ↦ let same = eqb-true b 39 is in rw same refl
+      ]
       | inr e ↦ let none : None ≡ Some r = rw e at h in absurd (cc)
     ]
+
+lawful_att_value : Lawful att_value
+unfolding att_value
+lawful_att_value = lawful_step IsAttValue after_quoted _ (record { takes = quoted_takes; again = λ t r is. (quoted_again t r is).0; begins = value_begins; utf8 = quoted_utf8 })
+
+lawful_equals : Lawful equals
+lawful_equals = search (lawful_both, lawful_word, lawful_blank) depth 14
+
+pub lawful_attribute : Lawful attribute
+unfolding attribute q_name att_value
+lawful_attribute = search (lawful_given, lawful_both, lawful_spelled, lawful_space, lawful_word, lawful_blank, lawful_q_name, lawful_att_value) depth 20
+
+-- ---- it says what the standard says
+
+four_joined : (t s1 s2 t1 t2 t3 t4 : List ℕ) → t ≡ t1 ++ s1 → s1 ≡ t2 ++ s2 → s2 ≡ t3 ++ t4 → t ≡ t1 ++ t2 ++ t3 ++ t4
+four_joined t s1 s2 t1 t2 t3 t4 a b c = rw (a, b, c) (simp append_assoc)
+
+pub attribute_is : (a : Attribute) (t : List ℕ) → attribute.Spells a t → IsAttribute a × (t ≡ attribute_text a)
+unfolding attribute q_name att_value
+attribute_is a t (x, (sp, r1, t1, s1, (e1, (u1, is1)), (nm, r2, t2, s2, (e2, (v2, is2)), (eq, q, t3, t4, (e3, (u3, is3)), (e4, (u4, is4)), h3, g3), h2, g2), h1, g1), h) =
+    let p3 : ◌≡◌ {A = List ℕ × List ℕ} (t3, t4) r2 = rw (← e3, ← e4) h3 in
+    let p2 : ◌≡◌ {A = List ℕ × (List ℕ × List ℕ)} (t2, (t3, t4)) r1 = rw (← e2, p3) h2 in
+    let p1 : ◌≡◌ {A = List ℕ × (List ℕ × (List ℕ × List ℕ))} (t1, (t2, (t3, t4))) x = rw (← e1, p2) h1 in
+    let same : attribute_of (t1, (t2, (t3, t4))) ≡ a = ap attribute_of p1 ∙ h in
+    subst (λ a. IsAttribute a × (t ≡ attribute_text a)) same (record { space = is1; name = subst IsQName (sym is2.0) is2.1; equals = equals_is u3 t3 is3; quoted = is4 }, four_joined t s1 s2 t1 t2 t3 t4 g1 g2 g3)
+
+four_split : (x y z w : List ℕ) → x ++ y ++ z ++ w ≡ x ++ (y ++ (z ++ w))
+four_split x y z w = simp append_assoc
+
+pub is_attribute : (a : Attribute) → IsAttribute a → attribute.Spells a (attribute_text a)
+unfolding attribute q_name att_value
+is_attribute a is = (
+  (a.space, (a.name, (a.equals, a.quoted))),
+  (
+    a.space,
+    (a.name, (a.equals, a.quoted)),
+    a.space,
+    a.name ++ (a.equals ++ a.quoted),
+    (refl, (tt, is.space)),
+    (a.name, (a.equals, a.quoted), a.name, a.equals ++ a.quoted, (refl, (a.name, (refl, is.name))), (a.equals, a.quoted, a.equals, a.quoted, (refl, (tt, is_equals a.equals is.equals)), (refl, (tt, is.quoted)), refl, refl), refl, refl),
+    refl,
+    four_split a.space a.name a.equals a.quoted,
+  ),
+  refl,
+)
+
+pub attributes_are : (parts : List Attribute) (t : List ℕ) → ManySpell attribute.Spells parts t → AllByRecursion IsAttribute parts × (t ≡ concat (map attribute_text parts))
+attributes_are [] t e = (tt, e)
+attributes_are (p ∷ ps) t (t1, t2, first, rest, e) =
+    let one = attribute_is p t1 first in
+    let more = attributes_are ps t2 rest in
+    ((one.0, more.0), e ∙ ap (λ x. x ++ t2) one.1 ∙ ap (λ x. attribute_text p ++ x) more.1)
+
+pub are_attributes : (parts : List Attribute) → AllByRecursion IsAttribute parts → ManySpell attribute.Spells parts (concat (map attribute_text parts))
+are_attributes [] h = refl
+are_attributes (p ∷ ps) h = (attribute_text p, concat (map attribute_text ps), is_attribute p h.0, are_attributes ps h.1, refl)
+
+pub attribute_again : (a : Attribute) (r : List ℕ) → IsAttribute a → attribute.read (attribute_text a ++ r) ≡ Some (a, r)
+unfolding attribute q_name att_value
+attribute_again a r is = lawful_attribute.again a (attribute_text a) r (is_attribute a is) (sees_nothing r)
+
+begins_by : (sp name eq quoted : List ℕ) → IsSpace sp → (b : ℕ) × (x : List ℕ) × (sp ++ name ++ eq ++ quoted ≡ b ∷ x) × (is_space b ≡ true)
+begins_by [] name eq quoted h = absurd (h.1 refl)
+begins_by (b ∷ bs) name eq quoted h = (b, bs ++ name ++ eq ++ quoted, refl, (and_parts _ _ h.0).0)
+
+pub attribute_begins : (a : Attribute) → IsAttribute a → (b : ℕ) × (x : List ℕ) × (attribute_text a ≡ b ∷ x) × (is_space b ≡ true)
+attribute_begins a is = begins_by a.space a.name a.equals a.quoted is.space
+
+-- ---- the loop over them
+
+rest_some : {A : Type 0} (o : Option (A × List ℕ)) (r : List ℕ) → rest_of o ≡ Some r → (x : A × List ℕ) × (o ≡ Some x) × (x.1 ≡ r)
+rest_some None r h = absurd (cc)
+rest_some (Some x) r h = (x, refl, cc (h))
+
+rest_none : {A : Type 0} (o : Option (A × List ℕ)) → rest_of o ≡ None → o ≡ None
+rest_none None h = refl
+rest_none (Some x) h = absurd (cc)
+
+pub attribute_step : (s r : List ℕ) → IsUtf8 s → rest_of (attribute.read s) ≡ Some r → (length r < length s) × ((many_read attribute.read s).1 ≡ (many_read attribute.read r).1) × IsUtf8 r
+unfolding attribute
+attribute_step s r u h =
+    let x = rest_some (attribute.read s) r h in
+    subst (λ r. (length r < length s) × ((many_read attribute.read s).1 ≡ (many_read attribute.read r).1) × IsUtf8 r) x.2 (many_step attribute lawful_attribute refl s x.0 u x.1)
+
+pub attribute_end : (s : List ℕ) → rest_of (attribute.read s) ≡ None → (many_read attribute.read s).1 ≡ s
+unfolding attribute
+attribute_end s h = many_end attribute lawful_attribute refl s (rest_none (attribute.read s) h)
+
+-- ---- its parts
 
 -- an attribute stands at the front, and these are what follows its parts
 pub record AttributeFront (s : List ℕ) (x : Rests) : Type 0 where
@@ -41,182 +136,33 @@ pub record AttributeFront (s : List ℕ) (x : Rests) : Type 0 where
   pub equals_utf8 : IsUtf8 x.2
   pub utf8 : IsUtf8 x.3
 
-equals_joined : (s1 s2 s3 s4 before behind_ : List ℕ) → s1 ≡ before ++ s2 → s2 ≡ 61 ∷ s3 → s3 ≡ behind_ ++ s4 → s1 ≡ (before ++ codes "=" ++ behind_) ++ s4
-equals_joined s1 s2 s3 s4 before behind_ a b c = rw (a, b, c) (simp append_assoc)
-
 pub rests_takes : (s : List ℕ) (x : Rests) → IsUtf8 s → attribute_rests s ≡ Some x → AttributeFront s x
-unfolding attribute_rests
+unfolding attribute_rests q_name att_value
 rests_takes s x u h =
-    let a = bind_some (after_space s) _ _ h in
-    let b = bind_some (after_qname a.0) _ _ a.2 in
-    let c = bind_some (after 61 (drop_while is_space b.0)) _ _ b.2 in
-    let d = bind_some (after_quoted (drop_while is_space c.0)) _ _ c.2 in
-    let same : ◌≡◌ {A = Rests} (a.0, b.0, drop_while is_space c.0, d.0) x = cc in
-    let sp = space_takes s a.0 a.1 in
-    let u1 = utf8_rest s sp.0 a.0 u (blank_utf8 sp.0 sp.1.0) sp.2 in
-    let name = after_qname_takes a.0 b.0 u1 b.1 in
-    let u2 = utf8_rest a.0 (take_while is_name_byte a.0) b.0 u1 (qname_utf8 (take_while is_name_byte a.0) name.0) name.1 in
-    let before = take_while_split is_space b.0 in
-    let blank = take_while_passes is_space b.0 in
-    let u3 = utf8_rest b.0 (take_while is_space b.0) (drop_while is_space b.0) u2 (blank_utf8 (take_while is_space b.0) blank) before in
-    let equals = after_takes 61 (drop_while is_space b.0) c.0 c.1 in
-    let u4 = utf8_behind 61 c.0 (omega arith) (subst IsUtf8 equals u3) in
-    let after_ = take_while_split is_space c.0 in
-    let blank2 = take_while_passes is_space c.0 in
-    let u5 = utf8_rest c.0 (take_while is_space c.0) (drop_while is_space c.0) u4 (blank_utf8 (take_while is_space c.0) blank2) after_ in
-    let quoted = quoted_takes (drop_while is_space c.0) d.0 u5 d.1 in
+    let a = bind_some (space.read s) _ _ h in
+    let b = bind_some (q_name.read a.0.1) _ _ a.2 in
+    let c = bind_some (equals.read b.0.1) _ _ b.2 in
+    let d = bind_some (att_value.read c.0.1) _ _ c.2 in
+    let same : ◌≡◌ {A = Rests} (a.0.1, b.0.1, c.0.1, d.0.1) x = cc (d.2) in
+    let sp = taken space lawful_space s a.0.0 a.0.1 u a.1 in
+    let name = taken q_name lawful_q_name a.0.1 b.0.0 b.0.1 sp.3 b.1 in
+    let eq = taken equals lawful_equals b.0.1 c.0.0 c.0.1 name.3 c.1 in
+    let quoted = taken att_value lawful_att_value c.0.1 d.0.0 d.0.1 eq.3 d.1 in
     subst (AttributeFront s) same (record {
-      parts = record {
-        space = sp.0;
-        name = take_while is_name_byte a.0;
-        equals = take_while is_space b.0 ++ codes "=" ++ take_while is_space c.0;
-        quoted = quoted.0;
-      };
-      is_attribute = record {
-        space = sp.1;
-        name = name.0;
-        equals = (take_while is_space b.0, take_while is_space c.0, blank, blank2, refl);
-        quoted = quoted.1;
-      };
+      parts = record { space = sp.0; name = name.0; equals = eq.0; quoted = quoted.0 };
+      is_attribute = record { space = sp.1; name = subst IsQName (sym name.1.0) name.1.1; equals = equals_is c.0.0 eq.0 eq.1; quoted = quoted.1 };
       space = sp.2;
-      name = name.1;
-      equals = equals_joined b.0 (drop_while is_space b.0) c.0 (drop_while is_space c.0) (take_while is_space b.0) (take_while is_space c.0) before equals after_;
+      name = name.2;
+      equals = eq.2;
       quoted = quoted.2;
-      space_utf8 = u1;
-      name_utf8 = u2;
-      equals_utf8 = u5;
-      utf8 = utf8_rest (drop_while is_space c.0) quoted.0 d.0 u5 (quoted_utf8 quoted.0 quoted.1) quoted.2;
+      space_utf8 = sp.3;
+      name_utf8 = name.3;
+      equals_utf8 = eq.3;
+      utf8 = quoted.3;
     })
 
-four_joined : (s s1 s2 s3 r sp name equals quoted : List ℕ) → s ≡ sp ++ s1 → s1 ≡ name ++ s2 → s2 ≡ equals ++ s3 → s3 ≡ quoted ++ r → s ≡ (sp ++ name ++ equals ++ quoted) ++ r
-four_joined s s1 s2 s3 r sp name equals quoted a b c d = rw (a, b, c, d) (simp append_assoc)
+whole_joined : (s s1 s2 s3 r sp name equals quoted : List ℕ) → s ≡ sp ++ s1 → s1 ≡ name ++ s2 → s2 ≡ equals ++ s3 → s3 ≡ quoted ++ r → s ≡ (sp ++ name ++ equals ++ quoted) ++ r
+whole_joined s s1 s2 s3 r sp name equals quoted a b c d = rw (a, b, c, d) (simp append_assoc)
 
 pub front_whole : (s : List ℕ) (x : Rests) → (f : AttributeFront s x) → s ≡ attribute_text f.parts ++ x.3
-front_whole s x f = four_joined s x.0 x.1 x.2 x.3 f.parts.space f.parts.name f.parts.equals f.parts.quoted f.space f.name f.equals f.quoted
-
-attribute_found : (s r : List ℕ) → attribute s ≡ Some r → (x : Rests) × (attribute_rests s ≡ Some x) × (x.3 ≡ r)
-unfolding attribute
-attribute_found s r h =
-    let x = bind_some (attribute_rests s) _ _ h in
-    let same : x.0.3 ≡ r = cc (x.2) in
-    (x.0, x.1, same)
-
-pub attribute_takes : (s r : List ℕ) → IsUtf8 s → attribute s ≡ Some r → (a : Attribute) × IsAttribute a × (s ≡ attribute_text a ++ r) × IsUtf8 r
-attribute_takes s r u h =
-    let found = attribute_found s r h in
-    let front = rests_takes s found.0 u found.1 in
-    (front.parts, front.is_attribute, front_whole s found.0 front ∙ ap (λ t. attribute_text front.parts ++ t) found.2, subst IsUtf8 found.2 front.utf8)
-
-pub space_again : (sp x : List ℕ) → IsSpace sp → drop_while is_space x ≡ x → after_space (sp ++ x) ≡ Some x
-space_again [] x h solid = absurd (h.1 refl)
-space_again (b ∷ bs) x h solid =
-    let both = and_parts _ _ h.0 in
-    let first : is_space b ≡ true = both.0 in
-    rw first (ap (λ t. Some t) (drop_while_append is_space bs x both.1 ∙ solid))
-
-pub name_solid : (name y : List ℕ) → IsQName name → drop_while is_space (name ++ y) ≡ name ++ y
-name_solid [] y q = absurd (omega (arith, qname_nonempty [] q))
-name_solid (c ∷ cs) y q =
-    let byte = (and_parts _ _ (qname_bytes (c ∷ cs) q)).0 in
-    elim (cases_Bool (is_space c)) [
-      | inl e ↦ absurd (both_ways (is_name_byte c) (space_no_name c e) byte)
-      | inr e ↦ rw e refl
-    ]
-
-rests_by : (s s1 s2 s3 s4 r : List ℕ) → after_space s ≡ Some s1 → after_qname s1 ≡ Some s2 → after 61 (drop_while is_space s2) ≡ Some s3 → drop_while is_space s3 ≡ s4 → after_quoted s4 ≡ Some r → attribute_rests s ≡ Some (s1, s2, s4, r)
-unfolding attribute_rests
-rests_by s s1 s2 s3 s4 r a b c d e = rw a (rw b (rw c (rw d (rw e refl))))
-
-equals_split : (equals before behind_ x : List ℕ) → equals ≡ before ++ codes "=" ++ behind_ → equals ++ x ≡ before ++ (61 ∷ (behind_ ++ x))
-equals_split equals before behind_ x e = rw e (simp append_assoc)
-
-four_split : (sp name equals quoted r : List ℕ) → (sp ++ name ++ equals ++ quoted) ++ r ≡ sp ++ (name ++ (equals ++ (quoted ++ r)))
-four_split sp name equals quoted r = simp append_assoc
-
--- what follows the parts of the attribute, if r follows the whole
-abbrev pub rests_of : Attribute → List ℕ → Rests
-rests_of a r = (a.name ++ (a.equals ++ (a.quoted ++ r)), a.equals ++ (a.quoted ++ r), a.quoted ++ r, r)
-
-pub rests_again : (a : Attribute) (r : List ℕ) → IsAttribute a → attribute_rests (attribute_text a ++ r) ≡ Some (rests_of a r)
-rests_again a r is =
-    let before = is.equals.0 in
-    let behind_ = is.equals.1 in
-    let last = quoted_again a.quoted r is.quoted in
-    let s4 = a.quoted ++ r in
-    let s3 = behind_ ++ s4 in
-    let s2 = a.equals ++ s4 in
-    let split : s2 ≡ before ++ (61 ∷ s3) = equals_split a.equals before behind_ s4 is.equals.4 in
-    let one = space_again a.space (a.name ++ s2) is.space (name_solid a.name s2 is.name) in
-    let both = name_in_tag_again a.name before (61 ∷ s3) is.name is.equals.2 refl refl refl in
-    let two : after_qname (a.name ++ s2) ≡ Some s2 = subst (λ t. after_qname (a.name ++ t) ≡ Some t) (sym split) both.0 in
-    let three : after 61 (drop_while is_space s2) ≡ Some s3 = ap (λ t. after 61 (drop_while is_space t)) split ∙ ap (after 61) both.1 in
-    let four : drop_while is_space s3 ≡ s4 = drop_while_append is_space behind_ s4 is.equals.3 ∙ last.1 in
-    ap attribute_rests (four_split a.space a.name a.equals a.quoted r) ∙ rests_by (a.space ++ (a.name ++ s2)) (a.name ++ s2) s2 s3 s4 r one two three four last.0
-
-pub attribute_again : (a : Attribute) (r : List ℕ) → IsAttribute a → attribute (attribute_text a ++ r) ≡ Some r
-unfolding attribute
-attribute_again a r is = let found = rests_again a r is in rw found refl
-
-begins_by : (sp name equals quoted : List ℕ) → IsSpace sp → (b : ℕ) × (x : List ℕ) × (sp ++ name ++ equals ++ quoted ≡ b ∷ x) × (is_space b ≡ true)
-begins_by [] name equals quoted h = absurd (h.1 refl)
-begins_by (b ∷ bs) name equals quoted h = (b, bs ++ name ++ equals ++ quoted, refl, (and_parts _ _ h.0).0)
-
-pub attribute_begins : (a : Attribute) → IsAttribute a → (b : ℕ) × (x : List ℕ) × (attribute_text a ≡ b ∷ x) × (is_space b ≡ true)
-attribute_begins a is = begins_by a.space a.name a.equals a.quoted is.space
-
-pub attribute_utf8 : (a : Attribute) → IsAttribute a → IsUtf8 (attribute_text a)
-attribute_utf8 a is =
-    let before = is.equals.0 in
-    let behind_ = is.equals.1 in
-    let equals : IsUtf8 a.equals = subst IsUtf8 (sym is.equals.4) (IsUtf8-append (before ++ codes "=") behind_ (IsUtf8-append before (codes "=") (blank_utf8 before is.equals.2) (ascii (codes "=") refl)) (blank_utf8 behind_ is.equals.3)) in
-    IsUtf8-append (a.space ++ a.name ++ a.equals) a.quoted (IsUtf8-append (a.space ++ a.name) a.equals (IsUtf8-append a.space a.name (blank_utf8 a.space is.space.0) (qname_utf8 a.name is.name)) equals) (quoted_utf8 a.quoted is.quoted)
-
-pub parts_utf8 : (parts : List Attribute) → AllByRecursion IsAttribute parts → IsUtf8 (concat (map attribute_text parts))
-parts_utf8 [] h = IsUtf8-nil
-parts_utf8 (p ∷ ps) h = IsUtf8-append (attribute_text p) (concat (map attribute_text ps)) (attribute_utf8 p h.0) (parts_utf8 ps h.1)
-
-pub longer : (p r s : List ℕ) → p ≢ [] → s ≡ p ++ r → length r < length s
-longer [] r s some e = absurd (some refl)
-longer (b ∷ bs) r s some e = omega (arith, ap length e, length-append bs r)
-
-space_shorter : (s r : List ℕ) → after_space s ≡ Some r → length r < length s
-space_shorter s r h =
-    let found = space_takes s r h in
-    longer found.0 r s found.1.1 found.2
-
-qname_shorter : (s r : List ℕ) → after_qname s ≡ Some r → length r ≤ length s
-qname_shorter s r h =
-    elim (cases_Bool (qname (take_while is_name_byte s))) [
-      | inl e ↦ let rest : Some (drop_while is_name_byte s) ≡ Some r = rw e at h in let same : drop_while is_name_byte s ≡ r = cc in omega (arith, ap length same, drop_while_shorter is_name_byte s)
-      | inr e ↦ let none : None ≡ Some r = rw e at h in absurd (cc)
-    ]
-
-rests_shorter : (s : List ℕ) (x : Rests) (r : List ℕ) → attribute_rests s ≡ Some x → x.3 ≡ r → length r < length s
-unfolding attribute_rests
-rests_shorter s x r h same =
-    let a = bind_some (after_space s) _ _ h in
-    let b = bind_some (after_qname a.0) _ _ a.2 in
-    let c = bind_some (after 61 (drop_while is_space b.0)) _ _ b.2 in
-    let d = bind_some (after_quoted (drop_while is_space c.0)) _ _ c.2 in
-    let is : ◌≡◌ {A = Rests} (a.0, b.0, drop_while is_space c.0, d.0) x = cc in
-    let last : d.0 ≡ r = ap (λ x. x.3) is ∙ same in
-    omega (arith, ap length last, space_shorter s a.0 a.1, qname_shorter a.0 b.0 b.1, drop_while_shorter is_space b.0, ap length (after_takes 61 (drop_while is_space b.0) c.0 c.1), drop_while_shorter is_space c.0, quoted_shorter (drop_while is_space c.0) d.0 d.1)
-
-pub attribute_shrinks : Shrinks attribute
-attribute_shrinks s r h =
-    let found = attribute_found s r h in
-    rests_shorter s found.0 r found.1 found.2
-
--- behind white space, what is no name begins no attribute
-pub rests_stop : (blank close : List ℕ) → IsBlank blank → take_while is_name_byte close ≡ [] → drop_while is_space close ≡ close → after_space close ≡ None → attribute_rests (blank ++ close) ≡ None
-unfolding attribute_rests
-rests_stop [] close b none solid no_space = rw no_space refl
-rests_stop (c ∷ cs) close b none solid no_space =
-    let rest = space_again (c ∷ cs) close (b, λ n. absurd (cc)) solid in
-    let empty_ : qname [] ≡ false = rw chars-nil refl in
-    let no_name : after_qname close ≡ None = rw none (rw empty_ refl) in
-    rw rest (rw no_name refl)
-
-pub attribute_stops : (blank close : List ℕ) → IsBlank blank → take_while is_name_byte close ≡ [] → drop_while is_space close ≡ close → after_space close ≡ None → attribute (blank ++ close) ≡ None
-unfolding attribute
-attribute_stops blank close b none solid no_space = let stop = rests_stop blank close b none solid no_space in rw stop refl
+front_whole s x f = whole_joined s x.0 x.1 x.2 x.3 f.parts.space f.parts.name f.parts.equals f.parts.quoted f.space f.name f.equals f.quoted

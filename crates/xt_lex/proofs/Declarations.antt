@@ -83,10 +83,10 @@ lawful_xml_decl = search (lawful_both, lawful_word, lawful_values) depth 20
 equals_joined : (t before r e behind_ : List ℕ) → t ≡ before ++ r → r ≡ e ++ behind_ → e ≡ codes "=" → t ≡ before ++ codes "=" ++ behind_
 equals_joined t before r e behind_ a b c = rw (a, b, c) (simp append_assoc)
 
-equals_is : (v : Unit {0}) (t : List ℕ) → equals.Spells v t → IsEq t
+pub equals_is : (v : Unit {0}) (t : List ℕ) → equals.Spells v t → IsEq t
 equals_is v t (_, _, before, r, first, (_, _, e, behind_, is, second, _, split), _, whole_) = (before, behind_, first, second, equals_joined t before r e behind_ whole_ split is)
 
-is_equals : (t : List ℕ) → IsEq t → equals.Spells tt t
+pub is_equals : (t : List ℕ) → IsEq t → equals.Spells tt t
 is_equals t (before, behind_, first, second, e) = (tt, tt, before, codes "=" ++ behind_, first, (tt, tt, codes "=", behind_, refl, second, refl, refl), refl, e ∙ append_assoc before (codes "=") behind_)
 
 word_joined : (t space r1 w w1 r2 eq q : List ℕ) → t ≡ space ++ r1 → r1 ≡ w1 ++ r2 → w1 ≡ w → r2 ≡ eq ++ q → t ≡ space ++ w ++ eq ++ q

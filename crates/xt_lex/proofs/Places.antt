@@ -8,9 +8,10 @@ use Rattle.xt_spec.specs.Name.{IsQName}
 use Rattle.xt_spec.specs.Tag.{Attribute, attribute_text, IsSpace}
 use Rattle.xt_lex.specs.NameTest.{is_name_byte}
 use Rattle.xt_lex.specs.Place.{EndsName, IsNameAt, NoNameAt, IsAttributeAt, NoAttributeAt}
-use Rattle.xt_lex.specs.Scan.{take_while, drop_while, Rests, attribute_rests}
+use Rattle.xt_lex.specs.Scan.{take_while, drop_while}
+use Rattle.xt_lex.specs.Tag.{Rests, attribute}
 use Rattle.xt_lex.specs.declared.attribute.AttrSrc.{AttrSrc}
-use Rattle.xt_lex.proofs.Attributes.{AttributeFront, utf8_rest, rests_again, front_whole}
+use Rattle.xt_lex.proofs.Attributes.{AttributeFront, utf8_rest, attribute_again, front_whole}
 use Rattle.xt_lex.proofs.NameLemmas.{qname_bytes, qname_nonempty}
 use Rattle.xt_lex.proofs.StepLemmas.{take_while_split, take_while_append}
 use Rattle.xt_lex.proofs.Utf8.{qname_utf8}
@@ -134,7 +135,7 @@ value_from_cut text at s x f n within is e = place_cut text at s (f.parts.space 
 pub whole_cut : (text : List ℕ) (at : ℕ) (s : List ℕ) (x : Rests) (f : AttributeFront s x) (n : ℕ) → at ≤ length text → s ≡ drop at text → n ≡ at + (length s - length x.3) → IsCharBoundary text n
 whole_cut text at s x f n within is e = place_cut text at s (attribute_text f.parts) x.3 n within is (front_whole s x f) f.utf8 e
 
-pub no_attribute : (text : List ℕ) (at : ℕ) (s : List ℕ) → s ≡ drop at text → attribute_rests s ≡ None → NoAttributeAt text at
+pub no_attribute : (text : List ℕ) (at : ℕ) (s : List ℕ) → s ≡ drop at text → attribute.read s ≡ None → NoAttributeAt text at
 no_attribute text at s is none a rest spelled stands =
-    let again = ap attribute_rests (is ∙ stands) ∙ rests_again a rest spelled in
+    let again = ap attribute.read (is ∙ stands) ∙ attribute_again a rest spelled in
     absurd (cc)

@@ -18,7 +18,7 @@ byte_in_class b h = grind (arith, nat_tests)
 name_no_space : (b : ℕ) → is_name_byte b ≡ true → is_space b ≡ false
 name_no_space b h = grind (arith, nat_tests)
 
-no_empty_name : qname [] ≡ false
+pub no_empty_name : qname [] ≡ false
 no_empty_name = rw chars-nil refl
 
 pub lawful_q_name : Lawful q_name

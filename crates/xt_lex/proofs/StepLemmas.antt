@@ -6,13 +6,12 @@ use Rattle.std.specs.List.{list_all, prefix_len}
 use Rattle.std.specs.Str.{IsUtf8}
 use Rattle.std.proofs.lemmas.Str.{IsUtf8-take}
 use Rattle.xt_spec.specs.Char.{is_space}
-use Rattle.xt_spec.specs.Name.{are_ncname_chars, IsNCName, IsQName}
-use Rattle.xt_lex.specs.NameTest.{is_name_byte, qname}
-use Rattle.xt_spec.specs.Tag.{IsBlank}
+use Rattle.xt_spec.specs.Name.{are_ncname_chars, IsNCName}
+use Rattle.xt_lex.specs.NameTest.{is_name_byte}
 use Rattle.std.specs.Str.{chars}
-use Rattle.xt_lex.specs.Scan.{take_while, drop_while, after, after_qname, after_ncname}
+use Rattle.xt_lex.specs.Scan.{take_while, drop_while, after, after_ncname}
 use Rattle.xt_lex.proofs.Runs.{take_while_is, boundary_at_stop, stop_ascii}
-use Rattle.xt_lex.proofs.NameLemmas.{qname_from_test, test_from_qname, qname_bytes, ncname_from_test, test_from_ncname, ncname_passes}
+use Rattle.xt_lex.proofs.NameLemmas.{ncname_from_test, test_from_ncname, ncname_passes}
 pub use Rattle.xt_scan.proofs.Theorems.{bind_some, take_while_split, take_while_passes, utf8_behind}
 
 pub take_while_append : (p : ℕ → Bool) (a r : List ℕ) → list_all p a ≡ true → take_while p (a ++ r) ≡ a ++ take_while p r
@@ -37,24 +36,6 @@ after_takes c (b ∷ bs) r h =
       | inr e ↦ let none : None ≡ Some r = rw e at h in absurd (cc)
     ]
 
-pub after_qname_takes : (s r : List ℕ) → IsUtf8 s → after_qname s ≡ Some r → IsQName (take_while is_name_byte s) × (s ≡ take_while is_name_byte s ++ r)
-after_qname_takes s r u h =
-    elim (cases_Bool (qname (take_while is_name_byte s))) [
-      | inl e ↦
-          let rest : Some (drop_while is_name_byte s) ≡ Some r = rw e at h in
-          let utf8 : IsUtf8 (take_while is_name_byte s) = subst IsUtf8 (take_while_is is_name_byte s) (IsUtf8-take s (prefix_len is_name_byte s) u (boundary_at_stop is_name_byte s stop_ascii)) in
-          let same : drop_while is_name_byte s ≡ r = cc in
-          (qname_from_test _ utf8 e, take_while_split is_name_byte s ∙ ap (λ t. take_while is_name_byte s ++ t) same)
-      | inr e ↦ let none : None ≡ Some r = rw e at h in absurd (cc)
-    ]
-
-pub after_qname_again : (name r : List ℕ) → IsQName name → take_while is_name_byte r ≡ [] → drop_while is_name_byte r ≡ r → after_qname (name ++ r) ≡ Some r
-after_qname_again name r q none all =
-    let bytes = qname_bytes name q in
-    let front : take_while is_name_byte (name ++ r) ≡ name = take_while_append is_name_byte name r bytes ∙ ap (λ t. name ++ t) none ∙ append-nil name in
-    let back : drop_while is_name_byte (name ++ r) ≡ r = drop_while_append is_name_byte name r bytes ∙ all in
-    rw (front, test_from_qname name q, back) refl
-
 -- a run of bytes of names is text
 pub name_run_utf8 : (s : List ℕ) → IsUtf8 s → IsUtf8 (take_while is_name_byte s)
 name_run_utf8 s u = subst IsUtf8 (take_while_is is_name_byte s) (IsUtf8-take s (prefix_len is_name_byte s) u (boundary_at_stop is_name_byte s stop_ascii))
@@ -78,15 +59,3 @@ after_ncname_again name r q none all =
 
 pub space_no_name : (b : ℕ) → is_space b ≡ true → is_name_byte b ≡ false
 space_no_name b h = grind (arith, nat_tests)
-
-pub stops_name : (blank close : List ℕ) → IsBlank blank → take_while is_name_byte close ≡ [] → drop_while is_name_byte close ≡ close → (take_while is_name_byte (blank ++ close) ≡ []) × (drop_while is_name_byte (blank ++ close) ≡ blank ++ close)
-stops_name [] close h none all = (none, all)
-stops_name (b ∷ bs) close h none all =
-    let e : is_name_byte b ≡ false = space_no_name b (and_parts _ _ h).0 in
-    (rw e refl, rw e refl)
-
--- after the name and the white space of a tag stands its close
-pub name_in_tag_again : (name blank close : List ℕ) → IsQName name → IsBlank blank → take_while is_name_byte close ≡ [] → drop_while is_name_byte close ≡ close → drop_while is_space close ≡ close → (after_qname (name ++ (blank ++ close)) ≡ Some (blank ++ close)) × (drop_while is_space (blank ++ close) ≡ close)
-name_in_tag_again name blank close q b none all solid =
-    let stops = stops_name blank close b none all in
-    (after_qname_again name (blank ++ close) q stops.0 stops.1, drop_while_append is_space blank close b ∙ solid)

@@ -7,7 +7,6 @@ use Rattle.xt_spec.specs.Tag.{IsQuote}
 use Rattle.xt_spec.specs.Markup.{begins, lacks}
 use Rattle.xt_spec.specs.Doctype.{SubsetPart, literal_part, comment_part, pi_part, other_part, subset_part_text, subset_text, is_quote_or_end, IsSubsetPart, AreSubsetParts, IsSubset}
 use Rattle.xt_lex.specs.Scan.{◌>>=◌, maybe, take_while, drop_while, after, after_all, cut, quoted, many_in, many, after_first, after_less, after_marked, is_plain_in_subset, after_subset_part}
-use Rattle.xt_lex.proofs.Attributes.{longer}
 use Rattle.xt_lex.proofs.Cuts.{after_all_takes, cut_takes, cut_fresh_again, lacks_from_fresh, Stays, fresh_from_lacks, no_after, after_begins, begins_longer}
 use Rattle.xt_scan.proofs.Theorems.{any_quoted_takes, any_quoted_again}
 use Rattle.xt_lex.proofs.Instructions.{stays_end}
@@ -106,6 +105,10 @@ part_takes (b ∷ bs) r h =
           subst (PartFront (b ∷ bs)) same (plain_part b bs e)
       | inr e ↦ marked_takes (b ∷ bs) r (rw e at h)
     ]
+
+longer : (p r s : List ℕ) → p ≢ [] → s ≡ p ++ r → length r < length s
+longer [] r s some e = absurd (some refl)
+longer (b ∷ bs) r s some e = omega (arith, ap length e, length-append bs r)
 
 part_some : (p : SubsetPart) → subset_part_text p ≢ []
 part_some (literal_part q inner) e = absurd (cc)

@@ -1,34 +1,23 @@
 -- What is spelled is text, so a text may be cut behind a token.
-use Rattle.std.proofs.Common.{◌≡◌, ℕ, List, [], ◌∷◌, ◌++◌, take, true, refl, sym, codes, inl, inr, map}
+use Rattle.std.proofs.Common.{◌≡◌, ℕ, List, [], ◌∷◌, ◌++◌, take, true, refl, sym, codes, inl, inr}
 use Rattle.std.proofs.lemmas.Bool.{and_from}
 use Rattle.std.proofs.lemmas.Str.{IsUtf8-append, IsCharBoundary-from_take}
-use Rattle.std.specs.List.{AllByRecursion, concat}
+use Rattle.std.specs.List.{AllByRecursion}
 use Rattle.std.specs.Str.{IsUtf8, IsCharBoundary}
 use lib.Utf8.{scalars}
-use Rattle.xt_spec.specs.Name.{IsQName}
-use Rattle.xt_spec.specs.Tag.{IsBlank, attribute_text, Tag, tag_text, IsTag}
 use Rattle.xt_spec.specs.Token.{TokenKind, start_tag, empty_tag, end_tag, char_data, char_ref, entity_ref, cdata_section, comment, pi, declaration, doctype, IsPlain, Spells, IsFront}
-use Rattle.xt_lex.proofs.Attributes.{parts_utf8}
 use Rattle.xt_lex.proofs.Cuts.{chars_utf8}
 use Rattle.xt_lex.proofs.Declarations.{declaration_utf8}
 use Rattle.xt_lex.proofs.Doctypes.{doctype_utf8}
 use Rattle.xt_lex.proofs.Instructions.{data_utf8}
 use Rattle.xt_lex.proofs.References.{IsFound, found_spelt}
-use Rattle.xt_lex.proofs.Utf8.{char_scalar, blank_utf8, ascii, ncname_utf8, qname_utf8}
+use Rattle.xt_lex.proofs.Tags.{tag_utf8}
+use Rattle.xt_lex.proofs.Utf8.{char_scalar, ascii, ncname_utf8}
 use Rattle.xt_lex.proofs.Values.{attr_scalars}
 
 plain_scalars : (cs : List ℕ) → AllByRecursion IsPlain cs → scalars cs ≡ true
 plain_scalars [] h = refl
 plain_scalars (c ∷ cs) h = and_from _ _ (char_scalar c h.0.0) (plain_scalars cs h.1)
-
-pub tag_utf8 : (tag : Tag) (close : List ℕ) → IsTag tag → IsUtf8 close → IsUtf8 (tag_text tag close)
-tag_utf8 tag close is c =
-    let parts = concat (map attribute_text tag.attributes) in
-    IsUtf8-append (codes "<" ++ tag.name ++ parts ++ tag.blank) close (IsUtf8-append (codes "<" ++ tag.name ++ parts) tag.blank (IsUtf8-append (codes "<" ++ tag.name) parts (IsUtf8-append (codes "<") tag.name (ascii (codes "<") refl) (qname_utf8 tag.name is.name)) (parts_utf8 tag.attributes is.attributes)) (blank_utf8 tag.blank is.blank)) c
-
-end_utf8 : (name blank text : List ℕ) → IsQName name → IsBlank blank → text ≡ codes "</" ++ name ++ blank ++ codes ">" → IsUtf8 text
-end_utf8 name blank text q b e =
-    rw e (IsUtf8-append (codes "</" ++ name ++ blank) (codes ">") (IsUtf8-append (codes "</" ++ name) blank (IsUtf8-append (codes "</") name (ascii (codes "</") refl) (qname_utf8 name q)) (blank_utf8 blank b)) (ascii (codes ">") refl))
 
 found_utf8 : (k : TokenKind) (t : List ℕ) → IsFound k t → IsUtf8 t
 found_utf8 k t f = let spelt = found_spelt k t f in (spelt.0, (attr_scalars spelt.0 spelt.2, spelt.1))
@@ -37,9 +26,9 @@ bracketed_utf8 : (front inner ending : List ℕ) → IsUtf8 front → IsUtf8 inn
 bracketed_utf8 front inner ending f i e = IsUtf8-append (front ++ inner) ending (IsUtf8-append front inner f i) e
 
 pub spells_utf8 : (kind : TokenKind) (t : List ℕ) → Spells kind t → IsUtf8 t
-spells_utf8 start_tag t (tag, is, e) = rw e (tag_utf8 tag (codes ">") is (ascii (codes ">") refl))
-spells_utf8 empty_tag t (tag, is, e) = rw e (tag_utf8 tag (codes "/>") is (ascii (codes "/>") refl))
-spells_utf8 end_tag t (name, q, (blank, b, e)) = end_utf8 name blank t q b e
+spells_utf8 start_tag t h = tag_utf8 t start_tag h (inl refl)
+spells_utf8 empty_tag t h = tag_utf8 t empty_tag h (inr (inl refl))
+spells_utf8 end_tag t h = tag_utf8 t end_tag h (inr (inr refl))
 spells_utf8 char_data t (cs, some, plain, e, closes) = (cs, (plain_scalars cs plain, sym e))
 spells_utf8 char_ref t h = found_utf8 char_ref t (inl (refl, h))
 spells_utf8 entity_ref t h = found_utf8 entity_ref t (inr (refl, h))

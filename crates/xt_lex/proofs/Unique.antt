@@ -1,7 +1,7 @@
 -- A text has its parts in one way.
-use Rattle.std.proofs.Common.{◌≡◌, ℕ, ◌<◌, List, [], ◌∷◌, ◌++◌, false, refl, ap, sym, subst, ◌∙◌, arith, inl, inr, Some, None, codes, append_assoc, append-nil, cond, eqb, get_or}
+use Rattle.std.proofs.Common.{◌≡◌, ℕ, ◌<◌, List, [], ◌∷◌, ◌++◌, true, false, refl, ap, sym, subst, ◌∙◌, arith, inl, inr, Option, Some, None, codes, append_assoc, append-nil, cond, eqb, get_or}
 use Rattle.std.proofs.lemmas.Bool.{and_parts}
-use Rattle.std.proofs.lemmas.List.{append_cancel_left, append_cancel_right}
+use Rattle.std.proofs.lemmas.List.{append_cancel_left}
 use Rattle.std.specs.List.{AllByRecursion}
 use Rattle.xt_spec.specs.Char.{is_space}
 use Rattle.xt_spec.specs.Name.{IsQName}
@@ -10,11 +10,15 @@ use Rattle.xt_spec.specs.Tag.{IsBlank, Attribute, attribute_text, IsAttribute, T
 use Rattle.xt_spec.specs.Token.{char_ref, entity_ref}
 use Rattle.xt_lex.specs.NameTest.{is_name_byte}
 use Rattle.xt_lex.specs.Place.{EndsName, EndsTag}
-use Rattle.xt_lex.specs.Scan.{take_while, drop_while, after_space, Rests, attribute_rests}
-use Rattle.xt_lex.proofs.Attributes.{rests_of, rests_again, rests_stop, attribute_begins}
+use Rattle.xt_lex.specs.QName.{q_name}
+use Rattle.xt_lex.specs.Scan.{take_while, drop_while}
+use Rattle.xt_lex.specs.Tag.{attribute}
+use Rattle.xt_scan.specs.Form.{read_space}
+use Rattle.xt_lex.proofs.Attributes.{attribute_again, attribute_begins}
 use Rattle.xt_lex.proofs.Places.{name_run}
+use Rattle.xt_lex.proofs.QNames.{no_empty_name}
 use Rattle.xt_lex.proofs.References.{numbered_again, reference_again, char_ref_again, pair_parts}
-use Rattle.xt_lex.proofs.StepLemmas.{take_while_append, space_no_name}
+use Rattle.xt_lex.proofs.StepLemmas.{take_while_append, drop_while_append, space_no_name}
 use Rattle.xt_lex.proofs.Tags.{joined}
 
 pub name_unique : (a b r s : List ℕ) → IsQName a → IsQName b → EndsName r → EndsName s → a ++ r ≡ b ++ s → (a ≡ b) × (r ≡ s)
@@ -22,33 +26,14 @@ name_unique a b r s p q x y e =
     let same : a ≡ b = sym (name_run a r p x) ∙ ap (take_while is_name_byte) e ∙ name_run b s q y in
     (same, append_cancel_left a r s (e ∙ ap (λ t. t ++ s) (sym same)))
 
-attribute_same : (s n e q s' n' e' q' : List ℕ) → s ≡ s' → n ≡ n' → e ≡ e' → q ≡ q' → ◌≡◌ {A = Attribute} (record { space = s; name = n; equals = e; quoted = q }) (record { space = s'; name = n'; equals = e'; quoted = q' })
-attribute_same s n e q s' n' e' q' a b c d = cc
-
-rests_same : (x y : Rests) → Some x ≡ Some y → (x.0 ≡ y.0) × (x.1 ≡ y.1) × (x.2 ≡ y.2) × (x.3 ≡ y.3)
-rests_same x y h =
-    let same : x ≡ y = cc in
-    (ap (λ x. x.0) same, ap (λ x. x.1) same, ap (λ x. x.2) same, ap (λ x. x.3) same)
-
-four_split : (sp name equals quoted r : List ℕ) → (sp ++ name ++ equals ++ quoted) ++ r ≡ sp ++ (name ++ (equals ++ (quoted ++ r)))
-four_split sp name equals quoted r = simp append_assoc
-
--- equal fronts of equal texts that go on equally
-front_same : (x y r s : List ℕ) → x ++ r ≡ y ++ s → r ≡ s → x ≡ y
-front_same x y r s e f = append_cancel_right x y r (e ∙ ap (λ t. y ++ t) (sym f))
-
 pub attribute_unique : (a b : Attribute) (r s : List ℕ) → IsAttribute a → IsAttribute b → attribute_text a ++ r ≡ attribute_text b ++ s → (a ≡ b) × (r ≡ s)
 attribute_unique a b r s p q e =
-    let rests = rests_same (rests_of a r) (rests_of b s) (sym (rests_again a r p) ∙ ap attribute_rests e ∙ rests_again b s q) in
-    let whole : a.space ++ (a.name ++ (a.equals ++ (a.quoted ++ r))) ≡ b.space ++ (b.name ++ (b.equals ++ (b.quoted ++ s))) = sym (four_split a.space a.name a.equals a.quoted r) ∙ e ∙ four_split b.space b.name b.equals b.quoted s in
-    let space = front_same a.space b.space _ _ whole rests.0 in
-    let name = front_same a.name b.name _ _ rests.0 rests.1 in
-    let equals = front_same a.equals b.equals _ _ rests.1 rests.2 in
-    let quoted = front_same a.quoted b.quoted _ _ rests.2 rests.3 in
-    (attribute_same a.space a.name a.equals a.quoted b.space b.name b.equals b.quoted space name equals quoted, rests.3)
+    let same : ◌≡◌ {A = Option (Attribute × List ℕ)} (Some (a, r)) (Some (b, s)) = sym (attribute_again a r p) ∙ ap attribute.read e ∙ attribute_again b s q in
+    let parts : ◌≡◌ {A = Attribute × List ℕ} (a, r) (b, s) = cc in
+    (ap (λ x. x.0) parts, ap (λ x. x.1) parts)
 
 -- what ends a tag begins no name, and no white space
-tag_end : (ending r : List ℕ) → EndsTag ending → (take_while is_name_byte (ending ++ r) ≡ []) × (drop_while is_space (ending ++ r) ≡ ending ++ r) × (after_space (ending ++ r) ≡ None) × (take_while is_space (ending ++ r) ≡ []) × EndsName (ending ++ r)
+tag_end : (ending r : List ℕ) → EndsTag ending → (take_while is_name_byte (ending ++ r) ≡ []) × (drop_while is_space (ending ++ r) ≡ ending ++ r) × (read_space (ending ++ r) ≡ None) × (take_while is_space (ending ++ r) ≡ []) × EndsName (ending ++ r)
 tag_end [] r h = absurd h
 tag_end (b ∷ bs) r (inl e) =
     let name : is_name_byte b ≡ false = rw e refl in
@@ -59,28 +44,35 @@ tag_end (b ∷ bs) r (inr e) =
     let space : is_space b ≡ false = rw e refl in
     (rw name refl, rw space refl, rw space refl, rw space refl, name)
 
-end_rests : (blank ending r : List ℕ) → IsBlank blank → EndsTag ending → attribute_rests (blank ++ (ending ++ r)) ≡ None
-end_rests blank ending r b ends =
+-- behind white space, what ends a tag begins no attribute
+end_rests : (blank ending r : List ℕ) → IsBlank blank → EndsTag ending → attribute.read (blank ++ (ending ++ r)) ≡ None
+unfolding attribute q_name
+end_rests [] ending r b ends = let none = (tag_end ending r ends).2 in rw none refl
+end_rests (c ∷ cs) ending r b ends =
     let is = tag_end ending r ends in
-    rests_stop blank (ending ++ r) b is.0 is.1 is.2
+    let both = and_parts _ _ b in
+    let first : is_space c ≡ true = both.0 in
+    let rest : drop_while is_space (cs ++ (ending ++ r)) ≡ ending ++ r = drop_while_append is_space cs (ending ++ r) both.1 ∙ is.1 in
+    let none = is.0 in
+    rw first (rw rest (rw none (rw no_empty_name refl)))
 
 pub no_attribute_at_end : (blank ending : List ℕ) (a : Attribute) (rest : List ℕ) → IsBlank blank → EndsTag ending → IsAttribute a → blank ++ ending ≡ attribute_text a ++ rest → ⊥
 no_attribute_at_end blank ending a rest b ends is e =
-    let none : attribute_rests (blank ++ ending) ≡ None = ap (λ t. attribute_rests (blank ++ t)) (sym (append-nil ending)) ∙ end_rests blank ending [] b ends in
-    let again : attribute_rests (blank ++ ending) ≡ Some (rests_of a rest) = ap attribute_rests e ∙ rests_again a rest is in
+    let none : attribute.read (blank ++ ending) ≡ None = ap (λ t. attribute.read (blank ++ t)) (sym (append-nil ending)) ∙ end_rests blank ending [] b ends in
+    let again : attribute.read (blank ++ ending) ≡ Some (a, rest) = ap attribute.read e ∙ attribute_again a rest is in
     absurd (cc)
 
 list_same : (x y : Attribute) (xs ys : List Attribute) → x ≡ y → xs ≡ ys → x ∷ xs ≡ y ∷ ys
 list_same x y xs ys a b = cc
 
 -- attributes, and behind them what begins none
-pub attributes_unique : (xs ys : List Attribute) (r s : List ℕ) → AllByRecursion IsAttribute xs → AllByRecursion IsAttribute ys → attribute_rests r ≡ None → attribute_rests s ≡ None → joined xs ++ r ≡ joined ys ++ s → (xs ≡ ys) × (r ≡ s)
+pub attributes_unique : (xs ys : List Attribute) (r s : List ℕ) → AllByRecursion IsAttribute xs → AllByRecursion IsAttribute ys → attribute.read r ≡ None → attribute.read s ≡ None → joined xs ++ r ≡ joined ys ++ s → (xs ≡ ys) × (r ≡ s)
 attributes_unique [] [] r s p q x y e = (refl, e)
 attributes_unique [] (b ∷ ys) r s p q x y e =
-    let again : attribute_rests r ≡ Some (rests_of b (joined ys ++ s)) = ap attribute_rests (e ∙ append_assoc (attribute_text b) (joined ys) s) ∙ rests_again b (joined ys ++ s) q.0 in
+    let again : attribute.read r ≡ Some (b, (joined ys ++ s)) = ap attribute.read (e ∙ append_assoc (attribute_text b) (joined ys) s) ∙ attribute_again b (joined ys ++ s) q.0 in
     absurd (cc)
 attributes_unique (a ∷ xs) [] r s p q x y e =
-    let again : attribute_rests s ≡ Some (rests_of a (joined xs ++ r)) = ap attribute_rests (sym e ∙ append_assoc (attribute_text a) (joined xs) r) ∙ rests_again a (joined xs ++ r) p.0 in
+    let again : attribute.read s ≡ Some (a, (joined xs ++ r)) = ap attribute.read (sym e ∙ append_assoc (attribute_text a) (joined xs) r) ∙ attribute_again a (joined xs ++ r) p.0 in
     absurd (cc)
 attributes_unique (a ∷ xs) (b ∷ ys) r s p q x y e =
     let first = attribute_unique a b (joined xs ++ r) (joined ys ++ s) p.0 q.0 (sym (append_assoc (attribute_text a) (joined xs) r) ∙ e ∙ append_assoc (attribute_text b) (joined ys) s) in
@@ -130,8 +122,8 @@ tag_unique a b e f ends_e ends_f p q same =
     let ends_a = subst EndsName (ap (λ t. left ++ t) (nil a.blank e)) (tag_name_ends a e [] p ends_e) in
     let ends_b = subst EndsName (ap (λ t. right ++ t) (nil b.blank f)) (tag_name_ends b f [] q ends_f) in
     let names = name_unique a.name b.name (left ++ (a.blank ++ e)) (right ++ (b.blank ++ f)) p.name q.name ends_a ends_b tails in
-    let none_a = ap attribute_rests (sym (nil a.blank e)) ∙ end_rests a.blank e [] p.blank ends_e in
-    let none_b = ap attribute_rests (sym (nil b.blank f)) ∙ end_rests b.blank f [] q.blank ends_f in
+    let none_a = ap attribute.read (sym (nil a.blank e)) ∙ end_rests a.blank e [] p.blank ends_e in
+    let none_b = ap attribute.read (sym (nil b.blank f)) ∙ end_rests b.blank f [] q.blank ends_f in
     let parts = attributes_unique a.attributes b.attributes (a.blank ++ e) (b.blank ++ f) p.attributes q.attributes none_a none_b names.1 in
     let blanks = blank_unique a.blank b.blank e f p.blank q.blank ends_e ends_f parts.1 in
     (tag_same a.name a.attributes a.blank b.name b.attributes b.blank names.0 parts.0 blanks.0, blanks.1)

@@ -275,18 +275,3 @@ quoted_again p r (q, parts, is, made, split) =
     let whole : p ++ r ≡ q ∷ (concat parts ++ (q ∷ r)) = ap (λ t. t ++ r) split ∙ ap (λ t. q ∷ t) (append_assoc (concat parts) (q ∷ []) r) in
     let found = value_again q (concat parts) r (value_passes q parts made) (value_lacks q parts is made) in
     subst (λ t. (after_quoted t ≡ Some r) × (drop_while is_space t ≡ t)) (sym whole) (quote_begins q (concat parts ++ (q ∷ r)) r is found)
-
-value_shorter : (q : ℕ) (s r : List ℕ) → after_value q s ≡ Some r → length r ≤ length s
-value_shorter q s r h =
-    elim (cases_Bool (is_value (take_while (λ b. not (eqb b q)) s))) [
-      | inl f ↦ let rest : after q (drop_while (λ b. not (eqb b q)) s) ≡ Some r = rw f at h in omega (arith, ap length (after_takes q (drop_while (λ b. not (eqb b q)) s) r rest), drop_while_shorter (λ b. not (eqb b q)) s)
-      | inr f ↦ let none : None ≡ Some r = rw f at h in absurd (cc)
-    ]
-
-pub quoted_shorter : (s r : List ℕ) → after_quoted s ≡ Some r → length r ≤ length s
-quoted_shorter [] r h = absurd (cc)
-quoted_shorter (b ∷ bs) r h =
-    elim (cases_Bool (eqb b 34 || eqb b 39)) [
-      | inl e ↦ let rest : after_value b bs ≡ Some r = rw e at h in omega (arith, value_shorter b bs r rest)
-      | inr e ↦ let none : None ≡ Some r = rw e at h in absurd (cc)
-    ]

@@ -9,3 +9,4 @@ pub mod XmlDecl
 pub mod QName
 pub mod DoctypeDecl
 pub mod Markup
+pub mod Tag

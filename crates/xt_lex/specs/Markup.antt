@@ -9,7 +9,8 @@ use Rattle.xt_spec.specs.Token.{TokenKind, cdata_section, comment, pi, declarati
 use Rattle.xt_lex.specs.NameTest.{is_name_byte}
 use Rattle.xt_lex.specs.XmlDecl.{declared_values}
 use Rattle.xt_lex.specs.DoctypeDecl.{doctype_decl}
-use Rattle.xt_lex.specs.Scan.{◌>>=◌, maybe, take_while, drop_while, after, after_all, after_chars, after_target, after_data, tag, reference}
+use Rattle.xt_lex.specs.Scan.{◌>>=◌, maybe, take_while, drop_while, after, after_all, after_chars, after_target, after_data, reference}
+use Rattle.xt_lex.specs.Tag.{tag}
 
 -- behind `<![CDATA[`
 abbrev pub cdata_step : List ℕ → Option (TokenKind × List ℕ)
@@ -42,7 +43,7 @@ pi_or_declaration text =
 
 -- a token that begins with `<`, and not with `<!`
 unfoldable pub tag_or_pi : List ℕ → Option (TokenKind × List ℕ)
-tag_or_pi text = maybe (tag text) pi_or_declaration (after_all (codes "<?") text)
+tag_or_pi text = maybe (tag.read text) pi_or_declaration (after_all (codes "<?") text)
 
 -- a token that begins with `<`
 unfoldable pub angle_markup : List ℕ → Option (TokenKind × List ℕ)

@@ -7,10 +7,10 @@ use Rattle.xt_spec.specs.Name.{are_ncname_chars}
 use Rattle.xt_spec.specs.Reference.{is_decimal_digit, is_hexadecimal_digit, number_behind}
 use Rattle.xt_spec.specs.Doctype.{is_quote_or_end}
 use Rattle.xt_spec.specs.Markup.{is_reserved}
-use Rattle.xt_spec.specs.Token.{TokenKind, start_tag, empty_tag, end_tag, char_ref, entity_ref}
+use Rattle.xt_spec.specs.Token.{TokenKind, char_ref, entity_ref}
 use Rattle.xt_scan.specs.Form.{read_quoted}
 pub use Rattle.xt_scan.specs.Step.{◌>>=◌, take_while, drop_while, after_all}
-use Rattle.xt_lex.specs.NameTest.{is_name_byte, qname}
+use Rattle.xt_lex.specs.NameTest.{is_name_byte}
 
 abbrev pub maybe : {A B : Type 0} → B → (A → B) → Option A → B
 maybe none some None = none
@@ -24,9 +24,6 @@ is_found (Some x) = true
 abbrev pub after : ℕ → List ℕ → Option (List ℕ)
 after c [] = None
 after c (b ∷ bs) = if b == c then Some bs else None
-
-abbrev pub after_qname : List ℕ → Option (List ℕ)
-after_qname text = if qname (take_while is_name_byte text) then Some (drop_while is_name_byte text) else None
 
 abbrev pub after_ncname : List ℕ → Option (List ℕ)
 after_ncname text = if are_ncname_chars (chars (take_while is_name_byte text)) then Some (drop_while is_name_byte text) else None
@@ -92,19 +89,6 @@ abbrev pub after_quoted : List ℕ → Option (List ℕ)
 after_quoted [] = None
 after_quoted (b ∷ bs) = if b == 0x22 || b == 0x27 then after_value b bs else None
 
--- what follows the white space, the name, the Eq and the value of an attribute
-abbrev pub Rests : Type 0
-Rests = List ℕ × List ℕ × List ℕ × List ℕ
-
-unfoldable pub attribute_rests : List ℕ → Option Rests
-attribute_rests text =
-    after_space text >>= λ name. after_qname name >>= λ behind_name. after 0x3D (drop_while is_space behind_name)
-    >>= λ equals. after_quoted (drop_while is_space equals) >>= λ rest. Some (name, behind_name, drop_while is_space equals, rest)
-
--- what follows an attribute and the white space before it
-unfoldable pub attribute : List ℕ → Option (List ℕ)
-attribute text = attribute_rests text >>= λ x. Some x.3
-
 -- what is left when a step is taken as often as it can be, at most n times
 abbrev pub many_in : ℕ → (List ℕ → Option (List ℕ)) → List ℕ → List ℕ
 many_in zero f s = s
@@ -112,23 +96,6 @@ many_in (suc n) f s = maybe s (many_in n f) (f s)
 
 unfoldable pub many : (List ℕ → Option (List ℕ)) → List ℕ → List ℕ
 many f s = many_in (length s) f s
-
--- how a start-tag or an empty-element tag ends
-abbrev pub open_end : List ℕ → Option (TokenKind × List ℕ)
-open_end [] = None
-open_end (b ∷ bs) = if b == 0x3E then Some (start_tag, bs) else (after 0x2F (b ∷ bs) >>= λ s. after 0x3E s >>= λ r. Some (empty_tag, r))
-
--- behind the `<` of such a tag
-unfoldable pub open_tag : List ℕ → Option (TokenKind × List ℕ)
-open_tag text = after_qname text >>= λ s. open_end (drop_while is_space (many attribute s))
-
--- behind the `</` of an end-tag
-unfoldable pub closing_tag : List ℕ → Option (List ℕ)
-closing_tag text = after_qname text >>= λ s. after 0x3E (drop_while is_space s)
-
--- a tag
-unfoldable pub tag : List ℕ → Option (TokenKind × List ℕ)
-tag text = after 0x3C text >>= λ s. maybe (open_tag s) (λ e. closing_tag e >>= λ r. Some (end_tag, r)) (after 0x2F s)
 
 -- one byte more before a cut
 abbrev pub longer_by : ℕ → Option (List ℕ × List ℕ) → Option (List ℕ × List ℕ)

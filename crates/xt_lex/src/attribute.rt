@@ -5,11 +5,13 @@ ghost use Rattle.std.specs.List.{prefix_len, list_all};
 ghost use Rattle.std.specs.Option.{option_copied, IfNone};
 ghost use Rattle.std.specs.Str.{chars, IsCharBoundary};
 ghost use Rattle.xt_lex.specs.Fast.{is_attr_byte};
-ghost use Rattle.xt_lex.specs.Scan.{drop_while, take_while, is_value, is_attr_char, references_stand, after_value, after_quoted, attribute_rests, attribute, is_no_ampersand};
+ghost use Rattle.xt_lex.specs.Scan.{drop_while, take_while, is_value, is_attr_char, references_stand, after_value, after_quoted, is_no_ampersand};
+ghost use Rattle.xt_lex.specs.Tag.{attribute, attribute_rests, parts_before};
+ghost use Rattle.xt_scan.specs.Front.{rest_of};
 ghost use Rattle.xt_lex.specs.Place.{IsAttributeAt, NoAttributeAt};
 
 use crate::chars::{is_char, is_sound_byte};
-use crate::front::{after, after_qname, after_space};
+use crate::front::{after, after_equals, after_space, q_name};
 use crate::reference::reference;
 use crate::token::Span;
 use memchr::memchr;
@@ -130,22 +132,21 @@ fn after_quoted(text: &str) -> Option<&str>
 }
 
 /// What follows the white space, the name, the Eq and the value of an attribute.
-#[tactic(auto, unfolding(crate::specs::Scan::attribute_rests))]
+#[tactic(auto, unfolding(crate::specs::Tag::attribute_rests, crate::specs::Tag::attribute, crate::specs::Tag::att_value))]
 fn attribute_rests(text: &str) -> Option<(&str, &str, &str, &str)>
-    ensures { option_map (λ x. (x.0.now, x.1.now, x.2.now, x.3.now)) result ≡ attribute_rests text.now }
+    ensures rests { option_map (λ x. (x.0.now, x.1.now, x.2.now, x.3.now)) result ≡ attribute_rests text.now }
+    ensures form { option_map (λ x. (parts_before text.now (x.0.now, x.1.now, x.2.now, x.3.now), x.3.now)) result ≡ attribute.read text.now }
 {
     let name = after_space(text)?;
-    let behind_name = after_qname(name)?;
-    let equals = after('=', after_blank(behind_name))?;
-    let value = after_blank(equals);
+    let (_, behind_name) = q_name(name)?;
+    let value = after_equals(behind_name)?;
     let rest = after_quoted(value)?;
     Some((name, behind_name, value, rest))
 }
 
 /// What follows an attribute and the white space before it.
-#[tactic(auto, unfolding(crate::specs::Scan::attribute))]
 pub(crate) fn after_attribute(text: &str) -> Option<&str>
-    ensures { option_copied result ≡ attribute text.now }
+    ensures { option_copied result ≡ rest_of (attribute.read text.now) }
 {
     let (_, _, _, rest) = attribute_rests(text)?;
     Some(rest)

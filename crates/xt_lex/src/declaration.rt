@@ -11,6 +11,7 @@ ghost use Rattle.xt_scan.specs.Step.{maybe_read};
 ghost use Rattle.xt_lex.specs.XmlDecl as form;
 ghost use Rattle.xt_lex.specs.DeclaredValues.{values_of};
 
+use crate::front::after_equals;
 use xt_scan::{after_blank, after_space, after_word, quoted};
 
 /// What a declaration declares: the values that are written, without their quotes.
@@ -75,13 +76,6 @@ fn is_yes_or_no(text: &str) -> bool
     ensures { result ≡ spec.is_yes_or_no text.now }
 {
     text == "yes" || text == "no"
-}
-
-fn after_equals(text: &str) -> Option<&str>
-    ensures { option_map (λ x. (tt, x.now)) result ≡ form.equals.read text.now }
-{
-    let rest = after_word("=", after_blank(text))?;
-    Some(after_blank(rest))
 }
 
 /// Behind white space, the word and Eq: the value in quotes, and what follows it.

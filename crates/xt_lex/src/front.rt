@@ -1,11 +1,13 @@
 //! Steps from the front of a text: each gives what follows it.
 
-ghost use Rattle.std.specs.Prelude.{not, ◌==◌, ◌≡◌, ◌<◌, true, option_map};
+ghost use Rattle.std.specs.Prelude.{not, ◌==◌, ◌≡◌, ◌<◌, true, option_map, [], ◌∷◌};
 ghost use Rattle.std.specs.List.{prefix_len};
 ghost use Rattle.std.specs.Option.{option_copied};
 ghost use Rattle.xt_spec.specs.Char.{is_space};
+ghost use Rattle.xt_scan.specs.Form.{space, word as form_word};
+ghost use Rattle.xt_lex.specs.XmlDecl.{equals};
 ghost use Rattle.xt_lex.specs.Fast.{is_ending};
-ghost use Rattle.xt_lex.specs.Scan.{after_space, take_while, drop_while, after, after_all, cut, after_qname, after_ncname};
+ghost use Rattle.xt_lex.specs.Scan.{after_space, take_while, drop_while, after, after_all, cut, after_ncname};
 ghost use Rattle.xt_lex.specs.NameTest.{is_name_byte};
 ghost use Rattle.xt_lex.specs.QName as form;
 
@@ -17,7 +19,8 @@ use xt_scan::after_blank;
 /// What follows the character, an ASCII one.
 pub(crate) fn after(c: char, text: &str) -> Option<&str>
     requires { c < 128 }
-    ensures { option_copied result ≡ after c text.now }
+    ensures value { option_copied result ≡ after c text.now }
+    ensures form { option_map (λ x. (tt, x.now)) result ≡ (form_word (c ∷ [])).read text.now }
 {
     text.strip_prefix(c)
 }
@@ -48,7 +51,8 @@ fn name_len(bytes: &[u8]) -> usize
 
 /// What follows white space, of which there is some.
 pub(crate) fn after_space(text: &str) -> Option<&str>
-    ensures { option_copied result ≡ after_space text.now }
+    ensures value { option_copied result ≡ after_space text.now }
+    ensures form { option_map (λ x. (tt, x.now)) result ≡ space.read text.now }
 {
     match text.as_bytes() {
         [first, ..] => if is_space(*first) {
@@ -66,14 +70,6 @@ pub(crate) fn split_name(text: &str) -> (&str, &str)
     ensures rest { result.1.now ≡ drop_while is_name_byte text.now }
 {
     text.split_at(name_len(text.as_bytes()))
-}
-
-/// What follows a QName.
-pub(crate) fn after_qname(text: &str) -> Option<&str>
-    ensures { option_copied result ≡ after_qname text.now }
-{
-    let (name, rest) = split_name(text);
-    if is_qname(name) { Some(rest) } else { None }
 }
 
 /// What follows an NCName.
@@ -95,4 +91,12 @@ pub(crate) fn q_name(text: &str) -> Option<(&str, &str)>
     } else {
         None
     }
+}
+
+/// What follows an equals sign, and the white space on both sides of it.
+pub(crate) fn after_equals(text: &str) -> Option<&str>
+    ensures { option_map (λ x. (tt, x.now)) result ≡ equals.read text.now }
+{
+    let rest = after('=', after_blank(text))?;
+    Some(after_blank(rest))
 }

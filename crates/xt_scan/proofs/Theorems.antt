@@ -7,11 +7,16 @@ use Rattle.std.specs.Option.{option_map, IfSome, IfNone}
 use Rattle.xt_scan.specs.Form.{Form}
 use Rattle.xt_scan.specs.Front.{Front, NoFront, whole, EndsIn}
 use Rattle.xt_scan.proofs.Laws.{Lawful}
-pub use Rattle.xt_scan.proofs.Calls.{after_all_is, drop_while_is, boundary_behind, boundary_behind_or_start, byte_len, space_ascii, stripped}
-pub use Rattle.xt_scan.proofs.Laws.{Lawful, Leads, lawful_both, lawful_either, lawful_given, lawful_maybe, lawful_such}
+use Rattle.xt_scan.proofs.Steps.{utf8_rest}
+pub use Rattle.xt_scan.proofs.Calls.{after_all_is, after_word_is, drop_while_is, boundary_behind, boundary_behind_or_start, byte_len, space_ascii, stripped}
+pub use Rattle.xt_scan.proofs.Laws.{Lawful, Leads, lawful_both, lawful_either, lawful_given, lawful_many, lawful_maybe, lawful_spelled, lawful_such, many_end, many_step}
 pub use Rattle.xt_scan.proofs.Leaves.{any_quoted_again, any_quoted_takes, front_utf8, lawful_blank, lawful_piece, lawful_quoted, lawful_quoted_ascii, lawful_space, lawful_step, lawful_word, quote_small}
 pub use Rattle.xt_scan.proofs.Looks.{sees_anything, sees_apart, sees_nothing}
 pub use Rattle.xt_scan.proofs.Steps.{Stops, after_all_again, after_all_takes, all_weaker, ascii, ascii_from, bind_some, blank_utf8, boundary_at_stop, take_while_is, take_while_passes, take_while_split, take_while_utf8, space_small, stops_at, strip, utf8_behind, utf8_rest}
+
+-- what was read, and that what follows is text
+pub taken : {A : Type 0} (f : Form A) → Lawful f → (s : List ℕ) (v : A) (r : List ℕ) → IsUtf8 s → f.read s ≡ Some (v, r) → (t : List ℕ) × f.Spells v t × (s ≡ t ++ r) × IsUtf8 r
+taken f lf s v r u h = let one = lf.takes s v r u h in (one.0, one.1, one.2, utf8_rest s one.0 r u (lf.utf8 v one.0 one.1) one.2)
 
 -- where nothing is read, nothing of it stands in front that may end there
 pub nothing_else : {A : Type 0} (f : Form A) → Lawful f → (s : List ℕ) → f.read s ≡ None → NoFront f s
