@@ -1,7 +1,7 @@
 -- The faults of a reading from left to right are the first faults of `xt_spec`: a text is read up to a place exactly where its
 -- longest tokens up to there are the front of something whole.
-use Rattle.std.proofs.Common.{zero, suc, ◌≡◌, ◌≢◌, ◌∙◌, ℕ, ◌+◌, ◌-◌, ◌<◌, ◌≤◌, List, [], ◌∷◌, ◌++◌, length, take, drop, refl, sym, ap, subst, arith, Option, Some, None, append_assoc, inl, inr, ◌⊎◌, Bool, true, false, not, ◌&&◌, nat_lt, nat_le, nat_eq, bytes_eq, if◌then◌else◌, IfSome}
-use Rattle.std.proofs.lemmas.Bool.{cases_Bool, cases_lt}
+use Rattle.std.proofs.Common.{◌≡◌, ◌≢◌, ◌∙◌, ℕ, ◌+◌, ◌-◌, ◌≤◌, List, [], ◌∷◌, ◌++◌, length, take, drop, refl, sym, ap, subst, arith, Option, Some, None, append_assoc, inl, inr, ◌⊎◌, Bool, true, false, not, ◌&&◌, nat_lt, nat_le, nat_eq, bytes_eq, if◌then◌else◌, IfSome}
+use Rattle.std.proofs.lemmas.Bool.{cases_lt}
 use Rattle.std.proofs.lemmas.Bool.Decides.{nat_tests}
 use Rattle.std.proofs.lemmas.List.{drop-drop, length-drop, length-append, take-append-drop, length-take-le}
 use Rattle.std.proofs.lemmas.Str.{utf8_valid_len-IsValidUpTo}
@@ -10,17 +10,17 @@ use Rattle.std.specs.List.{list_all, starts_with}
 use Rattle.std.specs.Str.{IsUtf8, IsValidUpTo}
 use Rattle.xt_spec.specs.Limit.{most_levels}
 use Rattle.xt_spec.specs.Char.{is_space}
-use Rattle.xt_spec.specs.Declaration.{Declaration, is_utf8_or_absent}
+use Rattle.xt_spec.specs.Declaration.{Declaration}
 use Rattle.xt_spec.specs.Token.{TokenKind, IsLongestFront}
-use Rattle.xt_spec.specs.Tree.{Items, items_of, source_text, nil, leaf, gap}
-use Rattle.xt_spec.specs.Reading.{are_distinct, mark, Role, document, entity, fragment, plain_text, DeclaresUtf8, IsReading}
+use Rattle.xt_spec.specs.Tree.{Items, items_of, source_text}
+use Rattle.xt_spec.specs.Reading.{are_distinct, mark, Role, document, entity, fragment, plain_text, IsReading}
 use Rattle.xt_spec.specs.Front as front
-use Rattle.xt_spec.specs.Front.{StandsDeclared, IsForeign, after_mark, mark_len, TakesDeclared, BeginsBody}
+use Rattle.xt_spec.specs.Front.{after_mark, mark_len, TakesDeclared, BeginsBody}
 use Rattle.xt_spec.specs.FirstFault as first
 use Rattle.xt_spec.specs.FirstFault.{ReadingFault, open_behind, begins_too_deep, AreTokens, no_tokens, token_before, IsFrontOf, IsReadTo, IsStopped, no_token, misplaced, too_early, IsIllFormed, IsTooDeep, HasBodyAt, IsIllFormedBehind, IsTooDeepBehind, IsFirstFault}
 use Rattle.xt_lex.proofs.Theorems.{front_some}
 use Rattle.xt_read.specs.Run.{Body, content_body, IsBody, Tok, start_tok, empty_tok, end_tok, piece_tok, Piece, data_piece, part_piece, reference_piece, comment_piece, pi_piece, declaration_piece, doctype_piece, tok_text, IsPiece, IsOfKind, IsToken, OpenElement, State, begin, is_inside, is_top, begins_document, has_room, is_too_deep, closed, piece_step, step, IsWhole, with_text}
-use Rattle.xt_read.specs.Front.{role_of, markup_role_of, form_of, body_for, IsFront}
+use Rattle.xt_read.specs.Front.{role_of, markup_role_of, form_of, body_for}
 use Rattle.xt_read.specs.Faults.{reading_fault, Passes, here, past, IsHalt, IsHaltAt, IsBodyFault, IsBehindFront, IsTextFault, IsFaultOf}
 use Rattle.xt_read.specs.declared.front.FileRole.{FileRole}
 use Rattle.xt_read.specs.declared.front.FileRole.TheVariants as file
@@ -30,11 +30,11 @@ use Rattle.xt_read.specs.declared.unread.Unread.{Unread}
 use Rattle.xt_read.specs.declared.unread.Unread.TheVariants.{NotUtf8, Encoding, NotWellFormed, TooDeep, NoMemory}
 use Rattle.xt_read.proofs.Complete.{body_is_read}
 use Rattle.xt_read.proofs.Sound.{read_is_body}
-use Rattle.xt_read.proofs.Tokens.{token_some, token_within}
+use Rattle.xt_read.proofs.Tokens.{token_within}
 use Rattle.xt_read.proofs.Runs.{some_same, passes_push, passes_all, one_run, no_items, one_list}
 use Rattle.xt_read.proofs.Completed.{front_goes_on}
 use Rattle.xt_read.proofs.Refused.{misplaced_ends}
-use Rattle.xt_read.proofs.Fronts.{begins_mark, IsAfter, after_none, after_declared, unmarked, marked, is_front, one_tree, one_entity}
+use Rattle.xt_read.proofs.Fronts.{begins_mark, one_tree, one_entity}
 use Rattle.xt_read.proofs.PlainTexts.{one_text}
 use Rattle.xt_read.proofs.NoFaults.{no_fault, one_fault, one_body_fault}
 use Rattle.xt_read.proofs.SomeReading.{some_token, valid_up_to, some_body, reads_or_faults}
@@ -342,35 +342,6 @@ deep_back body text from start is =
 
 -- ---- the front
 
-declares_utf8 : (form : Declaration → Bool) (text : List ℕ) (d : StandsDeclared form text) → ¬ IsForeign form text → is_utf8_or_absent d.declares.encoding ≡ true
-declares_utf8 form text d known = elim (cases_Bool (is_utf8_or_absent d.declares.encoding)) [
-  | inl is ↦ is
-  | inr foreign ↦ absurd (known (d, foreign))
-]
-
-after_of : (r : MarkupRole) (text : List ℕ) (len : ℕ) → TakesDeclared (form_of r) text len → ¬ IsForeign (form_of r) text → (front : Items) × IsAfter (form_of r) (body_for r) text front len
-after_of r text len (inl (d, size)) known =
-    (leaf gap d.spelled nil, after_declared (form_of r) (body_for r) text d.spelled d.rest len (d.declares, d.is, d.has_form, declares_utf8 (form_of r) text d known) d.stands size)
-after_of r text len (inr (none, no_bytes)) known = (nil, subst (IsAfter (form_of r) (body_for r) text nil) (sym no_bytes) (after_none (form_of r) (body_for r) text none))
-
--- these gaps stand in front of a body that begins at a place
-front_at : (r : MarkupRole) (text : List ℕ) (to : ℕ) → HasBodyAt (form_of r) text to → (front : Items) × IsFront r text front to
-front_at r text to has = by (after_of r (after_mark text) has.begins.len has.begins.takes has.known) (starts_with nat_eq text mark) refl
-  where
-    by : (front : Items) × IsAfter (form_of r) (body_for r) (after_mark text) front has.begins.len → (b : Bool) → starts_with nat_eq text mark ≡ b → (front : Items) × IsFront r text front to
-    by (front, after) true starts =
-        let three : mark_len text ≡ 3 = rw starts refl in
-        let plain : after_mark text ≡ drop 3 text = rw starts refl in
-        let size : to ≡ 3 + has.begins.len = omega (arith, has.begins.to_is, three) in
-        let behind = subst (λ t. IsAfter (form_of r) (body_for r) t front has.begins.len) plain after in
-        (leaf gap mark front, is_front r text (leaf gap mark front) to (marked (form_of r) (body_for r) text front has.begins.len to starts size behind) has.begins)
-    by (front, after) false none =
-        let zero_long : mark_len text ≡ 0 = rw none refl in
-        let plain : after_mark text ≡ text = rw none refl in
-        let size : has.begins.len ≡ to = omega (arith, has.begins.to_is, zero_long) in
-        let behind = subst (IsAfter (form_of r) (body_for r) text front) size (subst (λ t. IsAfter (form_of r) (body_for r) t front has.begins.len) plain after) in
-        (front, is_front r text front to (unmarked (form_of r) (body_for r) text front to none behind) has.begins)
-
 mark_within : (text : List ℕ) → mark_len text + length (after_mark text) ≡ length text
 mark_within text = by (starts_with nat_eq text mark) refl
   where
@@ -412,21 +383,19 @@ deep_from markup.Entity text is = is
 ill_behind : (r : MarkupRole) (text : List ℕ) (at : ℕ) → IsBehindFront r text (NotWellFormed at) → IsIllFormedBehind (markup_role_of r) text at
 ill_behind r text at is =
     let (n, at_is, ill) = ill_forth (body_for r) text is.to at is.fault in
-    record { to = is.to; body = record { known = is.is.known; begins = is.is.begins }; n = n; at_is = at_is; fault = ill_as r (drop is.to text) n ill }
+    record { to = is.to; body = is.body; n = n; at_is = at_is; fault = ill_as r (drop is.to text) n ill }
 
 deep_behind : (r : MarkupRole) (text : List ℕ) → IsBehindFront r text TooDeep → IsTooDeepBehind (markup_role_of r) text
 deep_behind r text is =
-    record { to = is.to; body = record { known = is.is.known; begins = is.is.begins }; fault = deep_as r (drop is.to text) (deep_forth (body_for r) text is.to is.fault) }
+    record { to = is.to; body = is.body; fault = deep_as r (drop is.to text) (deep_forth (body_for r) text is.to is.fault) }
 
 behind_ill : (r : MarkupRole) (text : List ℕ) (at : ℕ) → IsIllFormedBehind (markup_role_of r) text at → IsBehindFront r text (NotWellFormed at)
 behind_ill r text at is =
-    let (items, stands) = front_at r text is.to is.body in
-    record { front = items; to = is.to; is = stands; fault = ill_back (body_for r) text is.to at is.n (begins_within (form_of r) text is.to is.body.begins) is.at_is (ill_from r (drop is.to text) is.n is.fault) }
+    record { to = is.to; body = is.body; fault = ill_back (body_for r) text is.to at is.n (begins_within (form_of r) text is.to is.body.begins) is.at_is (ill_from r (drop is.to text) is.n is.fault) }
 
 behind_deep : (r : MarkupRole) (text : List ℕ) → IsTooDeepBehind (markup_role_of r) text → IsBehindFront r text TooDeep
 behind_deep r text is =
-    let (items, stands) = front_at r text is.to is.body in
-    record { front = items; to = is.to; is = stands; fault = deep_back (body_for r) text is.to (begins_within (form_of r) text is.to is.body.begins) (deep_from r (drop is.to text) is.fault) }
+    record { to = is.to; body = is.body; fault = deep_back (body_for r) text is.to (begins_within (form_of r) text is.to is.body.begins) (deep_from r (drop is.to text) is.fault) }
 
 -- a fault that the reader answers is the first one
 text_first : (r : FileRole) (text : List ℕ) (e : Unread) → IsUtf8 text → IsTextFault r text e → IfSome (reading_fault e) (IsFirstFault (role_of r) text)

@@ -14,7 +14,7 @@ use Rattle.xt_read.specs.declared.front.MarkupRole.TheVariants as markup
 use Rattle.xt_read.specs.declared.unread.Unread.{Unread}
 use Rattle.xt_read.specs.declared.unread.Unread.TheVariants.{NotUtf8, Encoding, NotWellFormed, TooDeep, NoMemory}
 use Rattle.xt_read.proofs.Complete.{body_is_read}
-use Rattle.xt_read.proofs.Fronts.{no_foreign, one_begin}
+use Rattle.xt_read.proofs.Fronts.{no_foreign, one_begin, joins_body}
 use Rattle.xt_read.proofs.PlainTexts.{no_first_no_char, one_first_no_char}
 use Rattle.xt_read.proofs.Runs.{no_items, some_same, no_token_of_nil, too_deep_none}
 use Rattle.xt_read.proofs.Tokens.{token_unique}
@@ -22,7 +22,7 @@ use Rattle.xt_read.proofs.Tokens.{token_unique}
 -- a text with items has no fault behind its front
 none_behind : (r : MarkupRole) (text : List ℕ) (items : Items) (fault : Unread) → IsOrdered (markup_role_of r) items → source_text items ≡ text → IsBehindFront r text fault → (fault ≡ NoMemory → ⊥) → ⊥
 none_behind r text items fault ordered joined is some =
-    let (list, same, main, rest) = is.is.only items ordered joined in
+    let (list, same, main, rest) = (joins_body r text is.to is.body).only items ordered joined in
     no_items (body_for r) text is.to fault list is.fault some (body_is_read (body_for r) (drop is.to text) list main rest)
 
 no_markup_fault : (r : MarkupRole) (text : List ℕ) (items : Items) (fault : Unread) → IsOrdered (markup_role_of r) items → source_text items ≡ text → IsMarkupFault r text fault → fault ≡ NoMemory
@@ -122,7 +122,7 @@ one_body_fault body text from a b x y some more =
 
 one_behind : (r : MarkupRole) (text : List ℕ) (a b : Unread) → IsBehindFront r text a → IsBehindFront r text b → (a ≡ NoMemory → ⊥) → (b ≡ NoMemory → ⊥) → a ≡ b
 one_behind r text a b x y some more =
-    let to : x.to ≡ y.to = one_begin r text x.to y.to x.is.begins y.is.begins in
+    let to : x.to ≡ y.to = one_begin r text x.to y.to x.body.begins y.body.begins in
     one_body_fault (body_for r) text y.to a b (subst (λ (n : ℕ). IsBodyFault (body_for r) text n a) to x.fault) y.fault some more
 
 one_markup_fault : (r : MarkupRole) (text : List ℕ) (a b : Unread) → IsMarkupFault r text a → IsMarkupFault r text b → (a ≡ NoMemory → ⊥) → (b ≡ NoMemory → ⊥) → a ≡ b
@@ -130,16 +130,16 @@ one_markup_fault r text (NotUtf8 m) b x y some more = absurd x
 one_markup_fault r text NoMemory b x y some more = absurd (some refl)
 one_markup_fault r text Encoding (NotUtf8 n) x y some more = absurd y
 one_markup_fault r text Encoding Encoding x y some more = refl
-one_markup_fault r text Encoding (NotWellFormed n) x y some more = absurd (y.is.known x)
-one_markup_fault r text Encoding TooDeep x y some more = absurd (y.is.known x)
+one_markup_fault r text Encoding (NotWellFormed n) x y some more = absurd (y.body.known x)
+one_markup_fault r text Encoding TooDeep x y some more = absurd (y.body.known x)
 one_markup_fault r text Encoding NoMemory x y some more = absurd (more refl)
 one_markup_fault r text (NotWellFormed m) (NotUtf8 n) x y some more = absurd y
-one_markup_fault r text (NotWellFormed m) Encoding x y some more = absurd (x.is.known y)
+one_markup_fault r text (NotWellFormed m) Encoding x y some more = absurd (x.body.known y)
 one_markup_fault r text (NotWellFormed m) (NotWellFormed n) x y some more = one_behind r text (NotWellFormed m) (NotWellFormed n) x y some more
 one_markup_fault r text (NotWellFormed m) TooDeep x y some more = one_behind r text (NotWellFormed m) TooDeep x y some more
 one_markup_fault r text (NotWellFormed m) NoMemory x y some more = absurd (more refl)
 one_markup_fault r text TooDeep (NotUtf8 n) x y some more = absurd y
-one_markup_fault r text TooDeep Encoding x y some more = absurd (x.is.known y)
+one_markup_fault r text TooDeep Encoding x y some more = absurd (x.body.known y)
 one_markup_fault r text TooDeep (NotWellFormed n) x y some more = one_behind r text TooDeep (NotWellFormed n) x y some more
 one_markup_fault r text TooDeep TooDeep x y some more = refl
 one_markup_fault r text TooDeep NoMemory x y some more = absurd (more refl)

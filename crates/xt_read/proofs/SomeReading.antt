@@ -1,28 +1,28 @@
 -- Each file is read in a role, or has a fault of the reader.
-use Rattle.std.proofs.Common.{zero, suc, ◌≡◌, ◌≢◌, ◌∙◌, ℕ, ◌+◌, ◌-◌, ◌<◌, ◌≤◌, List, [], ◌∷◌, ◌++◌, length, take, drop, refl, sym, ap, subst, arith, ◌⊎◌, inl, inr, Bool, true, false, Option, Some, None, bytes_eq, codes, nat_eq, if◌then◌else◌}
+use Rattle.std.proofs.Common.{zero, suc, ◌≡◌, ◌≢◌, ◌∙◌, ℕ, ◌+◌, ◌-◌, ◌<◌, ◌≤◌, List, [], ◌∷◌, ◌++◌, length, take, drop, refl, sym, ap, subst, arith, ◌⊎◌, inl, inr, false, Option, Some, None, nat_eq, if◌then◌else◌}
 use Rattle.std.proofs.lemmas.Bool.{cases_Bool, cases_lt, cases_eq, both_ways}
 use Rattle.std.proofs.lemmas.List.{drop-drop, length-drop, length-take-le, take-append-drop, take_all}
-use Rattle.std.proofs.lemmas.Slice.Eq.{bytes_eq-Decides}
 use Rattle.std.proofs.lemmas.Str.{IsUtf8-drop, IsCharBoundary-from_drop, IsUtf8-from_is_utf8, is_utf8-from_IsUtf8}
 use Rattle.std.specs.List.{starts_with}
-use Rattle.std.specs.Str.{IsUtf8, is_utf8, IsValidUpTo, IsCharBoundary}
-use Rattle.xt_spec.specs.Declaration.{Declaration, IsDeclaration, IsDeclarationOf, is_utf8_or_absent}
-use Rattle.xt_spec.specs.Reference.{IsPredefined}
-use Rattle.xt_spec.specs.Reading.{attribute_names, mark, Role, document, entity, fragment, plain_text, IsOrdered, IsReading}
+use Rattle.std.specs.Str.{IsUtf8, is_utf8, IsValidUpTo}
+use Rattle.xt_spec.specs.Declaration.{IsDeclaration, IsDeclarationOf, is_utf8_or_absent}
+use Rattle.xt_spec.specs.Reading.{attribute_names, mark, plain_text, IsOrdered, IsReading}
 use Rattle.xt_spec.specs.Token.{TokenKind, start_tag, empty_tag, end_tag, char_data, char_ref, entity_ref, cdata_section, comment, pi, declaration, doctype, Spells, IsLongestFront, NoFront}
-use Rattle.xt_spec.specs.Tree.{Items, nil, leaf, gap, items_of, append, source_text}
+use Rattle.xt_spec.specs.Tree.{Items, items_of, append, source_text}
 use Rattle.xt_lex.specs.declared.token.Span.{Span}
 use Rattle.xt_tree.specs.Meaning.{at_span}
 use Rattle.xt_lex.proofs.Theorems.{some_front, some_chars, front_boundary, front_some, declaration_unique}
-use Rattle.xt_read.specs.FrontSteps.{IsDeclarationAt, NoDeclarationAt, IsDeclaredAt, front_items, one_text_items}
-use Rattle.xt_spec.specs.Front.{NoDeclared, StandsDeclared, IsForeign, after_mark, mark_len, BeginsBody}
-use Rattle.xt_read.specs.Front.{role_of, form_of, body_for, markup_role_of, IsFront}
-use Rattle.xt_read.specs.Run.{Body, content_body, data_piece, part_piece, reference_piece, comment_piece, pi_piece, declaration_piece, doctype_piece, Tok, start_tok, empty_tok, end_tok, piece_tok, tok_text, IsToken, IsOfKind, State, begin, with_text, has_ended, is_too_deep, step, IsWhole, IsRead}
+use Rattle.xt_read.specs.FrontSteps.{IsDeclarationAt, NoDeclarationAt, one_text_items}
+use Rattle.xt_spec.specs.Front.{IsForeign, after_mark}
+use Rattle.xt_spec.specs.FirstFault.{HasBodyAt}
+use Rattle.xt_read.specs.Front.{role_of, form_of, body_for, markup_role_of, gaps_to}
+use Rattle.xt_read.specs.Run.{Body, data_piece, part_piece, reference_piece, comment_piece, pi_piece, declaration_piece, doctype_piece, Tok, start_tok, empty_tok, end_tok, piece_tok, tok_text, IsToken, IsOfKind, State, begin, with_text, has_ended, is_too_deep, step, IsWhole, IsRead}
 use Rattle.xt_read.specs.Faults.{Passes, here, past, IsMisplaced, IsTooDeep, IsHalt, IsHaltAt, IsBodyFault, IsMarkupFault, IsPlainFault, IsTextFault, IsFaultOf}
 use Rattle.xt_read.specs.declared.front.FileRole.{FileRole}
 use Rattle.xt_read.specs.declared.front.FileRole.TheVariants as file
 use Rattle.xt_read.specs.declared.front.MarkupRole.TheVariants as markup
-use Rattle.xt_read.proofs.FrontPlaces.{none_in_front, other_in_front, not_declared, none_declared, foreign_there, mark_boundary, mark_dropped, front_stands, text_fault, file_fault}
+use Rattle.xt_read.proofs.FrontPlaces.{none_in_front, other_in_front, not_declared, none_declared, foreign_there, mark_boundary, mark_dropped, has_body, text_fault, file_fault}
+use Rattle.xt_read.proofs.Fronts.{joins_body}
 use Rattle.xt_read.proofs.PlainTexts.{no_char_behind, one_text_reads}
 use Rattle.xt_read.proofs.Sound.{read_is_body}
 use Rattle.xt_read.specs.declared.front.MarkupRole.{MarkupRole}
@@ -165,9 +165,8 @@ some_body body text from within utf8 = by (goes (length (drop from text)) (begin
 -- ---- what stands in front
 
 pub record FrontOf (role : MarkupRole) (text : List ℕ) : Type 0 where
-  pub front : Items
   pub to : ℕ
-  pub is : IsFront role text front to
+  pub body : HasBodyAt (form_of role) text to
   pub within : to ≤ length text
   pub utf8 : IsUtf8 (drop to text)
 
@@ -186,9 +185,8 @@ is_declaration_kind doctype = inr (λ e. cc)
 
 no_declaration : (role : MarkupRole) (text : List ℕ) (len : ℕ) → len ≡ (if starts_with nat_eq text mark then 3 else 0) → len ≤ length text → IsUtf8 (drop len text) → NoDeclarationAt text len → FrontOf role text
 no_declaration role text len size within utf8 none = record {
-  front = front_items text len None;
   to = len;
-  is = front_stands role text len None size (none_declared (form_of role) text len none);
+  body = has_body role text len None size (none_declared (form_of role) text len none);
   within = within;
   utf8 = utf8;
 }
@@ -224,9 +222,8 @@ some_declaration role text len n size within utf8 longest = by longest.front.spe
     by : IsDeclaration (take n (drop len text)) → IsForeign (form_of role) (drop len text) ⊎ FrontOf role text
     by (d, is) = elim (cases_Bool (form_of role d)) [
       | inr fails ↦ inr (record {
-        front = front_items text len None;
         to = len;
-        is = front_stands role text len None size
+        body = has_body role text len None size
             (not_declared (form_of role) text len span d (place (d, is)) (λ e other. declaration_unique (at_span text span) e d other (subst (IsDeclarationOf d) (sym there) is)) fails);
         within = within;
         utf8 = utf8;
@@ -234,9 +231,8 @@ some_declaration role text len n size within utf8 longest = by longest.front.spe
       | inl has ↦ elim (cases_Bool (is_utf8_or_absent d.encoding)) [
         | inr foreign ↦ inl (foreign_there (form_of role) text len span d (place (d, is)) (subst (IsDeclarationOf d) (sym there) is) has foreign)
         | inl known ↦ inr (record {
-          front = front_items text len (Some span);
           to = len + n;
-          is = front_stands role text len (Some span) size (record { place = place (d, is); declares = (d, subst (IsDeclarationOf d) (sym there) is, has, known) });
+          body = has_body role text len (Some span) size (record { place = place (d, is); declares = (d, subst (IsDeclarationOf d) (sym there) is, has, known) });
           within = fits;
           utf8 = utf8_behind;
         })
@@ -277,9 +273,9 @@ some_markup role text utf8 = let m = mark_of text utf8 in by (some_at role text 
     behind : (f : FrontOf role text) → ((items : Items) × IsRead (body_for role) (drop f.to text) items) ⊎ HasFault (IsBodyFault (body_for role) text f.to) → ((items : Items) × IsOrdered (markup_role_of role) items × (source_text items ≡ text)) ⊎ HasFault (IsMarkupFault role text)
     behind f (inl (items, read)) =
         let main = read_is_body (body_for role) (drop f.to text) items read in
-        let whole = f.is.opens items main.0 main.1 in
-        inl (append f.front items, whole.0, whole.1)
-    behind f (inr (fault, some, is)) = inr (fault, some, text_fault role text f.front f.to fault f.is is)
+        let whole = (joins_body role text f.to f.body).opens items main.0 main.1 in
+        inl (append (gaps_to text f.to) items, whole.0, whole.1)
+    behind f (inr (fault, some, is)) = inr (fault, some, text_fault role text f.to fault f.body is)
 
     by : IsForeign (form_of role) (after_mark text) ⊎ FrontOf role text → ((items : Items) × IsOrdered (markup_role_of role) items × (source_text items ≡ text)) ⊎ HasFault (IsMarkupFault role text)
     by (inl foreign) = inr (Encoding, (λ e. cc), foreign)

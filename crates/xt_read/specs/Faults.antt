@@ -16,10 +16,9 @@ use Rattle.std.specs.Prelude.{◌≡◌, ◌≢◌, ◌≤◌, ◌⊎◌, ℕ, t
 use Rattle.std.specs.Str.{IsValidUpTo}
 use Rattle.xt_spec.specs.Token.{NoFront}
 use Rattle.xt_read.specs.Run.{Body, Tok, tok_text, IsToken, State, begin, is_too_deep, step, IsWhole}
-use Rattle.xt_spec.specs.Tree.{Items}
 use Rattle.xt_spec.specs.Front.{after_mark, IsForeign}
-use Rattle.xt_spec.specs.FirstFault.{ReadingFault, not_utf8, encoding, not_well_formed, too_deep, IsFirstNoChar}
-use Rattle.xt_read.specs.Front.{form_of, body_for, IsFront}
+use Rattle.xt_spec.specs.FirstFault.{ReadingFault, not_utf8, encoding, not_well_formed, too_deep, HasBodyAt, IsFirstNoChar}
+use Rattle.xt_read.specs.Front.{form_of, body_for}
 use Rattle.xt_read.specs.declared.front.FileRole.{FileRole}
 use Rattle.xt_read.specs.declared.front.FileRole.TheVariants as file
 use Rattle.xt_read.specs.declared.front.MarkupRole.{MarkupRole}
@@ -83,9 +82,8 @@ pub record IsBodyFault (body : Body) (text : List ℕ) (from : ℕ) (fault : Unr
 
 -- .. behind what stands in front
 pub record IsBehindFront (role : MarkupRole) (text : List ℕ) (unread : Unread) : Type 0 where
-  pub front : Items
   pub to : ℕ
-  pub is : IsFront role text front to
+  pub body : HasBodyAt (form_of role) text to
   pub fault : IsBodyFault (body_for role) text to unread
 
 -- the first fault of a text of markup in this role: the encoding that it declares, or where its body is read no further
