@@ -14,7 +14,6 @@ use Rattle.xt_read.specs.Front.{form_of, gaps_to}
 use Rattle.xt_read.specs.Run.{Tok, start_tok, end_tok, IsToken, State, document_body, begin}
 use Rattle.xt_read.specs.declared.front.FileRole.TheVariants as file
 use Rattle.xt_read.specs.declared.front.MarkupRole.TheVariants as role
-use Rattle.xt_read.specs.declared.unread.Unread.TheVariants as unread
 use Rattle.xt_read.proofs.Fronts.{one_begin}
 use Rattle.xt_read.proofs.FirstFaults.{first_of, no_first_fault, one_first_fault}
 use Rattle.xt_read.proofs.PlainTexts.{no_first_no_char, one_first_no_char}
@@ -119,7 +118,7 @@ no_gap_in_front = refl
 mark_in_front : gaps_to (mark ++ codes "<a/>") 3 ≡ leaf gap mark nil
 mark_in_front = refl
 
-fault_of_the_steps : IsFaultOf file.Document crossed (unread.NotWellFormed 3)
+fault_of_the_steps : IsFaultOf file.Document crossed (not_well_formed 3)
 fault_of_the_steps = (
   ascii crossed refl,
   record {
@@ -138,7 +137,7 @@ fault_of_the_steps = (
 
 -- the end-tag may not stand: its place is that of the first fault
 fault_at_the_end_tag : IsFirstFault document crossed (not_well_formed 3)
-fault_at_the_end_tag = first_of file.Document crossed (unread.NotWellFormed 3) fault_of_the_steps
+fault_at_the_end_tag = first_of file.Document crossed (not_well_formed 3) fault_of_the_steps
 
 -- .. and no other place is
 no_fault_at_the_start_tag : IsFirstFault document crossed (not_well_formed 0) → ⊥

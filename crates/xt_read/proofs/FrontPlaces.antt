@@ -19,14 +19,12 @@ use Rattle.xt_lex.specs.declared.token.Span.{Span}
 use Rattle.xt_tree.specs.Meaning.{at_span, item_of, items_in}
 use Rattle.xt_read.specs.Steps.{IsTokenAt}
 use Rattle.xt_spec.specs.Front.{NoDeclared, IsForeign, after_mark, mark_len, BeginsBody}
-use Rattle.xt_spec.specs.FirstFault.{HasBodyAt}
+use Rattle.xt_spec.specs.FirstFault.{ReadingFault, not_utf8, encoding, not_well_formed, too_deep, HasBodyAt}
 use Rattle.xt_read.specs.Front.{markup_role_of, form_of, body_for, gap_of, behind_mark, gaps_to}
 use Rattle.xt_read.specs.FrontSteps.{IsDeclarationAt, NoDeclarationAt, IsDeclaredAt, mark_gap, declared_gap, front_items, front_len}
 use Rattle.xt_read.specs.declared.front.FileRole.{FileRole}
 use Rattle.xt_read.specs.declared.front.FileRole.TheVariants as file
 use Rattle.xt_read.specs.declared.front.MarkupRole.{MarkupRole}
-use Rattle.xt_read.specs.declared.unread.Unread.{Unread}
-use Rattle.xt_read.specs.declared.unread.Unread.TheVariants.{NotUtf8, Encoding, NotWellFormed, TooDeep, NoMemory}
 use Rattle.xt_read.specs.Faults.{IsBodyFault, IsMarkupFault, IsTextFault, IsFaultOf}
 use Rattle.xt_read.specs.Run.{Body, IsRead}
 use Rattle.xt_read.proofs.ItemLemmas.{items_of-append}
@@ -172,25 +170,23 @@ gaps_are role text len declared size found =
     ∙ ap (λ t. gap_of (take (front_len len declared - mark_len text) t)) (mark_dropped text len size))
 
 -- the first fault of a text, behind its front
-pub text_fault : (role : MarkupRole) (text : List ℕ) (to : ℕ) (fault : Unread) → HasBodyAt (form_of role) text to → IsBodyFault (body_for role) text to fault → IsMarkupFault role text fault
-text_fault role text to (NotWellFormed at) is fault = record { to = to; body = is; fault = fault }
-text_fault role text to TooDeep is fault = record { to = to; body = is; fault = fault }
-text_fault role text to NoMemory is fault = tt
-text_fault role text to (NotUtf8 at) is fault = absurd fault.halts
-text_fault role text to Encoding is fault = absurd fault.halts
+pub text_fault : (role : MarkupRole) (text : List ℕ) (to : ℕ) (fault : ReadingFault) → HasBodyAt (form_of role) text to → IsBodyFault (body_for role) text to fault → IsMarkupFault role text fault
+text_fault role text to (not_well_formed at) is fault = record { to = to; body = is; fault = fault }
+text_fault role text to too_deep is fault = record { to = to; body = is; fault = fault }
+text_fault role text to (not_utf8 at) is fault = absurd fault.halts
+text_fault role text to encoding is fault = absurd fault.halts
 
 -- a text in a role has no fault of its bytes
-no_utf8_fault : (role : FileRole) (text : List ℕ) (at : ℕ) → IsTextFault role text (NotUtf8 at) → ⊥
+no_utf8_fault : (role : FileRole) (text : List ℕ) (at : ℕ) → IsTextFault role text (not_utf8 at) → ⊥
 no_utf8_fault file.Document text at is = is
 no_utf8_fault file.Entity text at is = is
 no_utf8_fault file.Text text at is = is
 
-pub file_fault : (role : FileRole) (bytes text : List ℕ) (fault : Unread) → text ≡ bytes → IsUtf8 bytes → IsTextFault role text fault → IsFaultOf role bytes fault
-file_fault role bytes text (NotWellFormed at) same utf8 is = (utf8, subst (λ t. IsTextFault role t (NotWellFormed at)) same is)
-file_fault role bytes text TooDeep same utf8 is = (utf8, subst (λ t. IsTextFault role t TooDeep) same is)
-file_fault role bytes text NoMemory same utf8 is = tt
-file_fault role bytes text (NotUtf8 at) same utf8 is = absurd (no_utf8_fault role text at is)
-file_fault role bytes text Encoding same utf8 is = (utf8, subst (λ t. IsTextFault role t Encoding) same is)
+pub file_fault : (role : FileRole) (bytes text : List ℕ) (fault : ReadingFault) → text ≡ bytes → IsUtf8 bytes → IsTextFault role text fault → IsFaultOf role bytes fault
+file_fault role bytes text (not_well_formed at) same utf8 is = (utf8, subst (λ t. IsTextFault role t (not_well_formed at)) same is)
+file_fault role bytes text too_deep same utf8 is = (utf8, subst (λ t. IsTextFault role t too_deep) same is)
+file_fault role bytes text (not_utf8 at) same utf8 is = absurd (no_utf8_fault role text at is)
+file_fault role bytes text encoding same utf8 is = (utf8, subst (λ t. IsTextFault role t encoding) same is)
 
 -- ---- the whole
 

@@ -1,15 +1,16 @@
 use Rattle.std.proofs.Common.{subst}
 use Rattle.xt_read.specs.Progress.{body_of}
 use Rattle.xt_read.specs.Run.{Body}
-use Rattle.xt_read.specs.Faults.{IsBodyFault}
+use Rattle.xt_read.specs.Faults.{reading_fault, IsBodyFault}
+use Rattle.xt_read.proofs.Runs.{IfSome-weaker}
 use Rattle.xt_read.proofs.FrontPlaces.{text_fault, joined_items, joined_places}
 use Rattle.xt_read.proofs.document.read_markup.Goals as goal
 
 pub returns-in-Err-read_body-clause-fault : goal.returns-in-Err-read_body-clause-fault
 returns-in-Err-read_body-clause-fault c =
     let text = c.args.text.now in
-    text_fault c.args.role text c.in-Ok.front.to c.in-Err-read_body.unread c.in-Ok.ensures.opens
-    (subst (λ (b : Body). IsBodyFault b text c.in-Ok.front.to c.in-Err-read_body.unread) c.body.ensures c.in-Err-read_body.ensures.fault)
+    IfSome-weaker (reading_fault c.in-Err-read_body.unread) _ _ (λ f fault.
+    text_fault c.args.role text c.in-Ok.front.to f c.in-Ok.ensures.opens (subst (λ (b : Body). IsBodyFault b text c.in-Ok.front.to f) c.body.ensures fault)) c.in-Err-read_body.ensures.fault
 
 pub returns-in-Ok-joined-clause-value : goal.returns-in-Ok-joined-clause-value
 returns-in-Ok-joined-clause-value c =

@@ -1,12 +1,17 @@
-use Rattle.std.proofs.Common.{◌∙◌, inr, ap, subst, sym}
+use Rattle.std.proofs.Common.{◌∙◌, ap, subst, sym, IfSome}
 use Rattle.xt_spec.specs.Front.{IsForeign}
 use Rattle.xt_spec.specs.FirstFault.{HasBodyAt}
+use Rattle.xt_read.specs.Faults.{reading_fault, IsMarkupFault}
+use Rattle.xt_read.specs.declared.unread.Unread.{Unread}
 use Rattle.xt_read.specs.Front.{form_of, gaps_to}
 use Rattle.xt_read.proofs.FrontPlaces.{mark_dropped, gaps_are, has_body}
 use Rattle.xt_read.proofs.front.read_front.Goals as goal
 
 pub returns-in-Err-clause-fault : goal.returns-in-Err-clause-fault
-returns-in-Err-clause-fault c = inr (c.in-Err.ensures.fault.0, subst (IsForeign (form_of c.args.role)) (mark_dropped c.args.text.now c.mark_len-mark.result c.mark_len-mark.ensures.value) c.in-Err.ensures.fault.1)
+returns-in-Err-clause-fault c =
+    let text = c.args.text.now in
+    subst (λ (e : Unread). IfSome (reading_fault e) (IsMarkupFault c.args.role text)) (sym c.in-Err.ensures.fault.0)
+    (subst (IsForeign (form_of c.args.role)) (mark_dropped text c.mark_len-mark.result c.mark_len-mark.ensures.value) c.in-Err.ensures.fault.1)
 
 pub returns-in-Ok-gaps_of-clause-value : goal.returns-in-Ok-gaps_of-clause-value
 returns-in-Ok-gaps_of-clause-value c =
