@@ -7,11 +7,11 @@ use Rattle.xt_spec.specs.Reading.{mark, document, plain_text, behind_root, IsOrd
 use Rattle.xt_spec.specs.Token.{start_tag, end_tag, Spells}
 use Rattle.xt_spec.specs.Tree.{Items, nil, leaf, text_item, gap}
 use Rattle.xt_lex.proofs.Theorems.{token_longest, plain_is_ncname, ascii}
-use Rattle.xt_read.specs.Faults.{here, past, IsFaultOf}
+use Rattle.xt_read.specs.Faults.{IsFaultOf}
 use Rattle.xt_spec.specs.Front.{NoDeclared, BeginsBody}
 use Rattle.xt_spec.specs.FirstFault.{not_well_formed, HasBodyAt, IsFirstNoChar, IsFirstFault}
 use Rattle.xt_read.specs.Front.{form_of, gaps_to}
-use Rattle.xt_read.specs.Run.{Tok, start_tok, end_tok, IsToken, State, document_body, begin}
+use Rattle.xt_read.specs.Run.{Tok, start_tok, end_tok, IsToken, State, document_body, begin, here, past}
 use Rattle.xt_read.specs.declared.front.FileRole.TheVariants as file
 use Rattle.xt_read.specs.declared.front.MarkupRole.TheVariants as role
 use Rattle.xt_read.proofs.Fronts.{one_begin}

@@ -18,9 +18,9 @@ use Rattle.xt_spec.specs.Front as front
 use Rattle.xt_spec.specs.Front.{after_mark, mark_len, TakesDeclared, BeginsBody}
 use Rattle.xt_spec.specs.FirstFault.{ReadingFault, not_utf8, encoding, not_well_formed, too_deep, open_behind, begins_too_deep, AreTokens, no_tokens, token_before, IsFrontOf, IsReadTo, IsStopped, no_token, misplaced, too_early, IsIllFormed, IsTooDeep, IsIllFormedBehind, IsTooDeepBehind, IsFirstFault}
 use Rattle.xt_lex.proofs.Theorems.{front_some}
-use Rattle.xt_read.specs.Run.{Body, content_body, IsBody, Tok, start_tok, empty_tok, end_tok, piece_tok, Piece, data_piece, part_piece, reference_piece, comment_piece, pi_piece, declaration_piece, doctype_piece, tok_text, IsPiece, IsOfKind, IsToken, OpenElement, State, begin, is_inside, is_top, begins_document, has_room, is_too_deep, closed, piece_step, step, IsWhole, with_text}
+use Rattle.xt_read.specs.Run.{Body, content_body, IsBody, Tok, start_tok, empty_tok, end_tok, piece_tok, Piece, data_piece, part_piece, reference_piece, comment_piece, pi_piece, declaration_piece, doctype_piece, tok_text, IsPiece, IsOfKind, IsToken, OpenElement, State, begin, is_inside, is_top, begins_document, has_room, is_too_deep, closed, piece_step, step, IsWhole, with_text, Passes, here, past}
 use Rattle.xt_read.specs.Front.{role_of, markup_role_of, form_of, body_for}
-use Rattle.xt_read.specs.Faults.{Passes, here, past, IsHalt, IsHaltAt, IsBodyFault, IsBehindFront, IsTextFault, IsFaultOf}
+use Rattle.xt_read.specs.Faults.{IsHalt, IsHaltAt, IsBodyFault, IsBehindFront, IsTextFault, IsFaultOf}
 use Rattle.xt_read.specs.declared.front.FileRole.{FileRole}
 use Rattle.xt_read.specs.declared.front.FileRole.TheVariants as file
 use Rattle.xt_read.specs.declared.front.MarkupRole.{MarkupRole}
@@ -28,7 +28,7 @@ use Rattle.xt_read.specs.declared.front.MarkupRole.TheVariants as markup
 use Rattle.xt_read.proofs.Complete.{body_is_read}
 use Rattle.xt_read.proofs.Sound.{read_is_body}
 use Rattle.xt_read.proofs.Tokens.{token_within}
-use Rattle.xt_read.proofs.Runs.{some_same, passes_push, passes_all, one_run, no_items, one_list}
+use Rattle.xt_read.proofs.Runs.{some_same, passes_push, one_run, no_items, one_list}
 use Rattle.xt_read.proofs.Completed.{front_goes_on}
 use Rattle.xt_read.proofs.Refused.{misplaced_ends}
 use Rattle.xt_read.proofs.Fronts.{begins_mark, one_tree, one_entity}
@@ -230,13 +230,13 @@ none_of s tok never = by (step s tok) refl
 whole_body : (body : Body) (text : List ℕ) (s : State) → Passes (begin body) text s [] → IsWhole s → (items : Items) × IsBody body items × (source_text items ≡ text)
 whole_body body text s passes whole =
     let items = items_of (with_text s.items s.text) in
-    let is = read_is_body body text items (record { last = s; reads = passes_all (begin body) s text passes; whole = whole; are = refl }) in
+    let is = read_is_body body text items (record { last = s; reads = passes; whole = whole; are = refl }) in
     (items, is.0, is.1)
 
 body_whole : (body : Body) (text : List ℕ) (s : State) (items : Items) → Passes (begin body) text s [] → IsBody body items → source_text items ≡ text → IsWhole s
 body_whole body text s items passes holds joined =
     let read = body_is_read body text items holds joined in
-    subst IsWhole (one_run (begin body) read.last s text read.reads (passes_all (begin body) s text passes)) read.whole
+    subst IsWhole (one_run (begin body) read.last s text read.reads passes) read.whole
 
 -- the place of a fault, counted from where the body begins
 record IsBehind (body : Body) (text : List ℕ) (from at : ℕ) (s : State) : Type 0 where

@@ -5,8 +5,8 @@ use Rattle.std.proofs.lemmas.Str.{utf8_valid_len-IsValidUpTo}
 use Rattle.xt_spec.specs.Tree.{Items, source_text}
 use Rattle.xt_spec.specs.Reading.{plain_text, IsReading, IsOrdered}
 use Rattle.xt_read.specs.Front.{body_for, role_of, markup_role_of}
-use Rattle.xt_read.specs.Run.{Body, Tok, tok_text, IsToken, State, begin, is_too_deep, step}
-use Rattle.xt_read.specs.Faults.{Passes, here, past, IsTooDeep, IsHalt, IsHaltAt, IsBodyFault, IsBehindFront, IsMarkupFault, IsPlainFault, IsTextFault, IsFaultOf}
+use Rattle.xt_read.specs.Run.{Body, Tok, tok_text, IsToken, State, begin, is_too_deep, step, Passes, here, past}
+use Rattle.xt_read.specs.Faults.{IsTooDeep, IsHalt, IsHaltAt, IsBodyFault, IsBehindFront, IsMarkupFault, IsPlainFault, IsTextFault, IsFaultOf}
 use Rattle.xt_read.specs.declared.front.FileRole.{FileRole}
 use Rattle.xt_read.specs.declared.front.FileRole.TheVariants as file
 use Rattle.xt_read.specs.declared.front.MarkupRole.{MarkupRole}

@@ -9,8 +9,8 @@ use Rattle.xt_spec.specs.FirstFault.{ReadingFault, not_utf8, encoding, not_well_
 use Rattle.xt_read.specs.declared.unread.Halt.{Halt}
 use Rattle.xt_read.specs.declared.unread.Halt.TheVariants as halt
 use Rattle.xt_read.specs.declared.unread.Halt.TheVariants.{Misplaced}
-use Rattle.xt_read.specs.Faults.{reading_fault, fault_at, Passes, here, past, IsHalt, IsHaltAt, IsBodyFault}
-use Rattle.xt_read.specs.Run.{Body, Tok, start_tok, empty_tok, end_tok, piece_tok, tok_text, IsToken, State, begin, with_text, is_full, is_too_deep, Reads, done, more, step, IsWhole, IsRead}
+use Rattle.xt_read.specs.Faults.{reading_fault, fault_at, IsHalt, IsHaltAt, IsBodyFault}
+use Rattle.xt_read.specs.Run.{Body, Tok, start_tok, empty_tok, end_tok, piece_tok, tok_text, IsToken, State, begin, with_text, is_full, is_too_deep, Reads, step, IsWhole, IsRead, Passes, here, past}
 use Rattle.xt_read.specs.Steps.{Takes}
 use Rattle.xt_read.proofs.Tokens.{token_some, token_within, token_unique}
 
@@ -21,32 +21,32 @@ pub no_token_of_nil : (tok : Tok) → IsToken tok [] → ⊥
 no_token_of_nil tok is = omega (arith, token_some tok [] is, token_within tok [] is)
 
 pub next_reads : (s t u : State) (text : List ℕ) (tok : Tok) → IsToken tok text → step s tok ≡ Some t → Reads s text u → Reads t (drop (length (tok_text tok)) text) u
-next_reads s t u text tok found steps (done s') = absurd (no_token_of_nil tok found)
-next_reads s t u text tok found steps (more s' t' u' text' tok' found' steps' rest) =
+next_reads s t u text tok found steps (here s' t0') = absurd (no_token_of_nil tok found)
+next_reads s t u text tok found steps (past s' t' u' text' r0' tok' found' steps' rest) =
     let same : tok' ≡ tok = token_unique tok' tok text found' found in
     let same_state : t' ≡ t = some_same (step s tok) t' t (subst (λ (k : Tok). step s k ≡ Some t') same steps') steps in
     let R : State → Type 0 = λ v. Reads v (drop (length (tok_text tok)) text) u in
     subst R same_state (subst (λ (k : Tok). Reads t' (drop (length (tok_text k)) text) u) same rest)
 
 pub no_token : (s u : State) (text : List ℕ) → 0 < length text → NoFront text → Reads s text u → ⊥
-no_token s u text some none (done s') = omega arith
-no_token s u text some none (more s' t' u' text' tok' found' steps' rest) = none found'.kind (length (tok_text tok')) found'.longest.front
+no_token s u text some none (here s' t0') = omega arith
+no_token s u text some none (past s' t' u' text' r0' tok' found' steps' rest) = none found'.kind (length (tok_text tok')) found'.longest.front
 
 pub no_step : (s u : State) (text : List ℕ) (tok : Tok) → IsToken tok text → step s tok ≡ None → Reads s text u → ⊥
-no_step s u text tok found none (done s') = no_token_of_nil tok found
-no_step s u text tok found none (more s' t' u' text' tok' found' steps' rest) =
+no_step s u text tok found none (here s' t0') = no_token_of_nil tok found
+no_step s u text tok found none (past s' t' u' text' r0' tok' found' steps' rest) =
     let same : tok' ≡ tok = token_unique tok' tok text found' found in
     let e : step s tok ≡ Some t' = subst (λ (k : Tok). step s k ≡ Some t') same steps' in
     cc
 
 reads_none : (s u : State) → Reads s [] u → s ≡ u
-reads_none s u (done s') = refl
-reads_none s u (more s' t' u' text' tok' found' steps' rest) = absurd (no_token_of_nil tok' found')
+reads_none s u (here s' t0') = refl
+reads_none s u (past s' t' u' text' r0' tok' found' steps' rest) = absurd (no_token_of_nil tok' found')
 
 -- The rest of a text is read to one state at most.
 pub one_run : (s u v : State) (text : List ℕ) → Reads s text u → Reads s text v → u ≡ v
-one_run s u v text (done s') other = reads_none s v other
-one_run s u v text (more s' t u' text' tok found steps rest) other = one_run t u v (drop (length (tok_text tok)) text) rest (next_reads s t v text tok found steps other)
+one_run s u v text (here s' t0') other = reads_none s v other
+one_run s u v text (past s' t u' text' r0' tok found steps rest) other = one_run t u v (drop (length (tok_text tok)) text) rest (next_reads s t v text tok found steps other)
 
 -- ---- a front of a text
 
@@ -59,7 +59,7 @@ passes_push s u v text rest tok is steps (past s' t' u' text' rest' tok' is' ste
 pub passes_reads : (s u v : State) (text rest : List ℕ) → Passes s text u rest → Reads u rest v → Reads s text v
 passes_reads s u v text rest (here s' text') run = run
 passes_reads s u v text rest (past s' t' u' text' rest' tok is steps others) run =
-    more s t' v text tok is steps (passes_reads t' u v (drop (length (tok_text tok)) text) rest others run)
+    past s t' v text [] tok is steps (passes_reads t' u v (drop (length (tok_text tok)) text) rest others run)
 
 -- what reads all reads the rest
 pub reads_rest : (s u v : State) (text rest : List ℕ) → Passes s text u rest → Reads s text v → Reads u rest v
@@ -74,9 +74,6 @@ goes_on s u v text bytes at to tok is size steps passes =
 
 pub ends_here : (s u : State) (text bytes : List ℕ) (at : ℕ) → length bytes ≤ at → Passes s text u (drop at bytes) → Passes s text u []
 ends_here s u text bytes at size passes = subst (λ (r : List ℕ). Passes s text u r) (drop_of_length-le bytes size) passes
-
-pub passes_all : (s u : State) (text : List ℕ) → Passes s text u [] → Reads s text u
-passes_all s u text passes = passes_reads s u u text [] passes (done u)
 
 -- ---- a halt
 

@@ -16,8 +16,8 @@ use Rattle.xt_read.specs.FrontSteps.{IsDeclarationAt, NoDeclarationAt, one_text_
 use Rattle.xt_spec.specs.Front.{IsForeign, after_mark}
 use Rattle.xt_spec.specs.FirstFault.{ReadingFault, not_utf8, encoding, not_well_formed, too_deep, HasBodyAt}
 use Rattle.xt_read.specs.Front.{role_of, form_of, body_for, markup_role_of, gaps_to}
-use Rattle.xt_read.specs.Run.{Body, data_piece, part_piece, reference_piece, comment_piece, pi_piece, declaration_piece, doctype_piece, Tok, start_tok, empty_tok, end_tok, piece_tok, tok_text, IsToken, IsOfKind, State, begin, with_text, has_ended, is_too_deep, step, IsWhole, IsRead}
-use Rattle.xt_read.specs.Faults.{Passes, here, past, IsMisplaced, IsTooDeep, IsHalt, IsHaltAt, IsBodyFault, IsMarkupFault, IsPlainFault, IsTextFault, IsFaultOf}
+use Rattle.xt_read.specs.Run.{Body, data_piece, part_piece, reference_piece, comment_piece, pi_piece, declaration_piece, doctype_piece, Tok, start_tok, empty_tok, end_tok, piece_tok, tok_text, IsToken, IsOfKind, State, begin, with_text, has_ended, is_too_deep, step, IsWhole, IsRead, Passes, here, past}
+use Rattle.xt_read.specs.Faults.{IsMisplaced, IsTooDeep, IsHalt, IsHaltAt, IsBodyFault, IsMarkupFault, IsPlainFault, IsTextFault, IsFaultOf}
 use Rattle.xt_read.specs.declared.front.FileRole.{FileRole}
 use Rattle.xt_read.specs.declared.front.FileRole.TheVariants as file
 use Rattle.xt_read.specs.declared.front.MarkupRole.TheVariants as markup
@@ -28,7 +28,6 @@ use Rattle.xt_read.proofs.Sound.{read_is_body}
 use Rattle.xt_read.specs.declared.front.MarkupRole.{MarkupRole}
 use Rattle.xt_read.proofs.Predefined.{is_predefined}
 use Rattle.xt_read.proofs.Tokens.{token_some, token_within}
-use Rattle.xt_read.proofs.Runs.{passes_all}
 use Rattle.xt_read.proofs.Whole.{ends_early}
 
 -- ---- the token at a place
@@ -136,7 +135,7 @@ some_body body text from within utf8 = by (goes (length (drop from text)) (begin
       | inl end ↦
           let passes : Passes (begin body) (drop from text) run.state [] = subst (Passes (begin body) (drop from text) run.state) end run.passes in
           elim (is_whole run.state) [
-            | inl whole ↦ inl (items_of (with_text run.state.items run.state.text), record { last = run.state; reads = passes_all (begin body) run.state (drop from text) passes; whole = whole; are = refl })
+            | inl whole ↦ inl (items_of (with_text run.state.items run.state.text), record { last = run.state; reads = passes; whole = whole; are = refl })
             | inr never ↦ inr (not_well_formed (length text), ends_early body text from run.state within passes never)
           ]
       | inr halted ↦ inr (halts halted)

@@ -9,9 +9,8 @@ use Rattle.xt_read.specs.declared.reader.Frame.{Frame}
 use Rattle.xt_read.specs.declared.reader.Reader.{Reader}
 use Rattle.xt_spec.specs.FirstFault.{not_well_formed}
 use Rattle.xt_read.specs.Progress.{element_of, state_of}
-use Rattle.xt_read.specs.Run.{Body, OpenElement, State, begin, with_text, is_top, IsWhole, IsRead}
-use Rattle.xt_read.specs.Faults.{Passes, IsHalt, IsBodyFault}
-use Rattle.xt_read.proofs.Runs.{passes_all}
+use Rattle.xt_read.specs.Run.{Body, OpenElement, State, begin, with_text, is_top, IsWhole, IsRead, Passes}
+use Rattle.xt_read.specs.Faults.{IsHalt, IsBodyFault}
 
 none_of_length : (frames : List Frame) → length frames ≡ 0 → frames ≡ []
 none_of_length [] e = refl
@@ -31,7 +30,7 @@ pub is_read : (body : Body) (text : List ℕ) (from : ℕ) (reader : Reader) (se
     → IsRead body (drop from text) (items_in text items)
 is_read body text from reader settled items passes whole all same = record {
   last = state_of text reader;
-  reads = passes_all (begin body) (state_of text reader) (drop from text) passes;
+  reads = passes;
   whole = whole;
   are = sym (ap (λ (l : List Src). items_in text l) same ∙ ap items_of all);
 }

@@ -3,7 +3,6 @@
 --
 --   reading_fault  the fault that an answer of the code is; none where memory ran out
 --   fault_at       a halt at a place, as an answer
---   Passes         a front of the text is read, token by token
 --   IsHalt         the text is not read on in this state: no token stands, or one that may not, or it ends too early
 --   IsTooDeep      .. a tag would begin an element at level 129
 --   IsHaltAt       the fault of one place
@@ -15,7 +14,7 @@
 use Rattle.std.specs.Prelude.{◌≡◌, ◌≢◌, ◌≤◌, ◌⊎◌, ℕ, true, false, List, [], drop, length, Option, Some, None, IsUtf8}
 use Rattle.std.specs.Str.{IsValidUpTo}
 use Rattle.xt_spec.specs.Token.{NoFront}
-use Rattle.xt_read.specs.Run.{Body, Tok, tok_text, IsToken, State, begin, is_too_deep, step, IsWhole}
+use Rattle.xt_read.specs.Run.{Body, Tok, IsToken, State, begin, is_too_deep, step, IsWhole, Passes}
 use Rattle.xt_spec.specs.Front.{after_mark, IsForeign}
 use Rattle.xt_spec.specs.FirstFault.{ReadingFault, not_utf8, encoding, not_well_formed, too_deep, HasBodyAt, IsFirstNoChar}
 use Rattle.xt_read.specs.Front.{form_of, body_for}
@@ -39,13 +38,6 @@ abbrev pub fault_at : Halt → ℕ → Unread
 fault_at halt.Misplaced at = unread.NotWellFormed at
 fault_at halt.TooDeep at = unread.TooDeep
 fault_at halt.NoMemory at = unread.NoMemory
-
--- from one state a front of the text is read to another, before the rest: each token is the longest at its place, and may
--- stand there
-pub data Passes : State → List ℕ → State → List ℕ → Type 0 where
-  here : (s : State) (text : List ℕ) → Passes s text s text
-  past : (s t u : State) (text rest : List ℕ) (tok : Tok) → IsToken tok text → step s tok ≡ Some t
-      → Passes t (drop (length (tok_text tok)) text) u rest → Passes s text u rest
 
 -- a token stands in front that may not, though not for its level
 pub record IsMisplaced (s : State) (text : List ℕ) : Type 0 where

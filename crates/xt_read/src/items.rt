@@ -5,8 +5,8 @@ ghost use Rattle.std.specs.Str.{IsCharBoundary};
 ghost use Rattle.xt_tree.specs.Meaning.{items_in};
 ghost use Rattle.xt_tree.specs.Places.{marks_of, AreInPlace};
 ghost use Rattle.xt_read.specs.Progress.{body_of, state_of, all_marks};
-ghost use Rattle.xt_read.specs.Run.{begin, IsRead};
-ghost use Rattle.xt_read.specs.Faults.{reading_fault, Passes, IsBodyFault};
+ghost use Rattle.xt_read.specs.Run.{begin, Passes, IsRead};
+ghost use Rattle.xt_read.specs.Faults.{reading_fault, IsBodyFault};
 
 use crate::reader::Reader;
 use crate::stage::Body;

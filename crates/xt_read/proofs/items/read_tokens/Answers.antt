@@ -1,8 +1,8 @@
 use Rattle.std.proofs.Common.{List, refl, sym, subst, arith, drop}
 use Rattle.xt_tree.specs.Places.{Mark, AreInPlace}
 use Rattle.xt_read.specs.Progress.{body_of, state_of}
-use Rattle.xt_read.specs.Run.{State, begin}
-use Rattle.xt_read.specs.Faults.{reading_fault, Passes, here}
+use Rattle.xt_read.specs.Run.{State, begin, Passes, here}
+use Rattle.xt_read.specs.Faults.{reading_fault}
 use Rattle.xt_read.proofs.Runs.{IfSome-weaker, goes_on, ends_here}
 use Rattle.xt_read.proofs.items.read_tokens.Goals as goal
 
