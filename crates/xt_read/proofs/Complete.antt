@@ -138,7 +138,7 @@ parts_read opened stage items text (reference_part t c ∷ ps) rest u is_in are 
     (parts_read opened stage items (Some (longer text t)) ps rest u is_in are.1 follows run))
 parts_read opened stage items text (section_part t content ∷ ps) rest u is_in are follows run =
     subst (λ (r : List ℕ). Reads (at opened stage items text) r u) (sym (append_assoc t (parts_text ps) rest))
-    (reads_step (at opened stage items text) (at opened stage items (Some (longer text t))) u (piece_tok part_piece t) cdata_section (parts_text ps ++ rest) (content, are.0.0, are.0.1, are.0.2) (λ k. cc) (inl refl) (when_true _ _ _ is_in)
+    (reads_step (at opened stage items text) (at opened stage items (Some (longer text t))) u (piece_tok part_piece t) cdata_section (parts_text ps ++ rest) (content, are.0) (λ k. cc) (inl refl) (when_true _ _ _ is_in)
     (parts_read opened stage items (Some (longer text t)) ps rest u is_in are.1 follows run))
 
 text_reads : (opened : List OpenElement) (stage : Option Stage) (items : List Item) (text : Option (List ℕ)) (t rest : List ℕ) (u : State) → IsIn opened stage → IsTextItem t → Follows rest

@@ -477,8 +477,8 @@ pending_part (Some a) p here rest (parts, are, some, joined, before) is plain la
 
 pending_piece : (text : Option (List ℕ)) (t here rest : List ℕ) → Pending text here → (kind : TokenKind) → IsPiece kind part_piece t → Spells kind t → Pending (Some (longer text t)) rest
 pending_piece text t here rest pending kind (inl section) spelled =
-    let (content, chars, lacks, is) = subst (λ k. Spells k t) section spelled in
-    pending_part text (section_part t content) here rest pending ((chars, lacks, is), tt) refl refl
+    let (content, is) = subst (λ k. Spells k t) section spelled in
+    pending_part text (section_part t content) here rest pending (is, tt) refl refl
 pending_piece text t here rest pending kind (inr (kinds, c, stands)) spelled = pending_part text (reference_part t c) here rest pending (stands, tt) refl refl
 
 -- ---- one step
