@@ -180,7 +180,7 @@ front_token (reference_part text c) parts are = elim (stands_spells text c are.0
   | inr spells ↦ (entity_ref, inr refl, token_longest entity_ref text (parts_text parts) spells (λ is. absurd (cc)))
 ]
 front_token (section_part text content) parts are =
-    (cdata_section, refl, token_longest cdata_section text (parts_text parts) (content, are.0.0, are.0.1, are.0.2) (λ is. absurd (cc)))
+    (cdata_section, refl, token_longest cdata_section text (parts_text parts) (content, are.0) (λ is. absurd (cc)))
 
 -- the longest tokens of equal texts are one
 fronts_same : (t r u s : List ℕ) (k l : TokenKind) → IsLongestFront (t ++ r) k (length t) → IsLongestFront (u ++ s) l (length u) → t ++ r ≡ u ++ s → (k ≡ l) × (t ≡ u) × (r ≡ s)

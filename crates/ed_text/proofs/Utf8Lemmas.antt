@@ -12,7 +12,7 @@ token_some : (kind : TokenKind) (text : List ℕ) → Spells kind text → 0 < l
 token_some kind text spells = front_some (text ++ []) kind (length text) (token_longest kind text [] spells (λ _. tt)).front
 
 section_spells : (text content : List ℕ) → IsSectionOf text content → Spells cdata_section text
-section_spells text content is = (content, is.0, is.1, is.2)
+section_spells text content is = (content, is)
 
 parts_utf8 : (parts : List TextPart) → AreTextParts parts → IsUtf8 (parts_text parts)
 parts_utf8 [] are = IsUtf8-nil

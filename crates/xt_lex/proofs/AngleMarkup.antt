@@ -56,7 +56,7 @@ cdata_takes s r k u h =
     let same = pair_parts cdata_section k found.0 r found.2 in
     let inner = after_chars_takes 93 (codes "]>") s found.0 (omega arith) u found.1 in
     let text = codes "<![CDATA[" ++ inner.0 ++ codes "]]>" in
-    let spelled = spelled_as k cdata_section text (sym same.0) ((inner.0, inner.1, lacks_from_fresh (codes "]]>") inner.0 _ inner.2, refl), tt) in
+    let spelled = spelled_as k cdata_section text (sym same.0) ((inner.0, (inner.1, lacks_from_fresh (codes "]]>") inner.0 _ inner.2, refl)), tt) in
     (text, found_behind (codes "<![CDATA[") s inner.0 (codes "]]>") found.0 inner.3 ∙ ap (λ r. text ++ r) same.1, spelled.0, spelled.1)
 
 dashes : (b : ℕ) (front r : List ℕ) → begins (codes "--") (b ∷ (front ++ (codes "--" ++ r))) ≡ begins (codes "--") (b ∷ (front ++ codes "-"))
@@ -230,7 +230,7 @@ not_xml target reserved =
 
 special_again : (t r : List ℕ) (k : TokenKind) → Spells k t → IsSpecial k → angle_markup (t ++ r) ≡ Some (k, r)
 unfolding angle_markup declared declared_section tag_or_pi pi_or_declaration
-special_again t r cdata_section (inner, chars_, lacks_, e) s =
+special_again t r cdata_section (inner, (chars_, lacks_, e)) s =
     let split = again_behind t (codes "<![CDATA[") inner (codes "]]>") r e in
     let found = after_chars_again (codes "]]>") inner r (omega arith) chars_ (fresh_from_lacks (codes "]]>") inner r stays_close lacks_) in
     rw split (rw found refl)
@@ -268,7 +268,7 @@ angle_markup_again t r k h (inr s) = special_again t r k h s
 
 -- it begins with `<`
 pub special_begins : (k : TokenKind) (t : List ℕ) → Spells k t → IsSpecial k → (x : List ℕ) × (t ≡ 60 ∷ x)
-special_begins cdata_section t (inner, chars_, lacks_, e) s = (_, e)
+special_begins cdata_section t (inner, (chars_, lacks_, e)) s = (_, e)
 special_begins comment t (inner, chars_, lacks_, e) s = (_, e)
 special_begins declaration t (d, is) s = (_, is.spelled)
 special_begins doctype t is s = (_, is.spelled)

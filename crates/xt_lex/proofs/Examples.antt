@@ -79,7 +79,7 @@ no_short_value spans = let e = spans.value_to in absurd (omega arith)
 
 -- a CDATA section holds markup as text, and no `]]>`
 cdata_holds_tags : IsCDataSection (codes "<![CDATA[<a>&]]]>")
-cdata_holds_tags = (codes "<a>&]", spelt_ascii is_char (codes "<a>&]") refl refl, refl, refl)
+cdata_holds_tags = (codes "<a>&]", (spelt_ascii is_char (codes "<a>&]") refl refl, refl, refl))
 
 cdata_ends_at_the_first : (lacks (codes "]]>") (codes "a]]b") ≡ true) × (lacks (codes "]]>") (codes "a]]>b") ≡ false)
 cdata_ends_at_the_first = (refl, refl)

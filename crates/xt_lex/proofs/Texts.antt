@@ -32,7 +32,7 @@ spells_utf8 end_tag t h = tag_utf8 t end_tag h (inr (inr refl))
 spells_utf8 char_data t (cs, some, plain, e, closes) = (cs, (plain_scalars cs plain, sym e))
 spells_utf8 char_ref t h = found_utf8 char_ref t (inl (refl, h))
 spells_utf8 entity_ref t h = found_utf8 entity_ref t (inr (refl, h))
-spells_utf8 cdata_section t (inner, chars_, lacks_, e) =
+spells_utf8 cdata_section t (inner, (chars_, lacks_, e)) =
     rw e (bracketed_utf8 (codes "<![CDATA[") inner (codes "]]>") (ascii (codes "<![CDATA[") refl) (chars_utf8 inner chars_) (ascii (codes "]]>") refl))
 spells_utf8 comment t (inner, chars_, lacks_, e) =
     rw e (bracketed_utf8 (codes "<!--") inner (codes "-->") (ascii (codes "<!--") refl) (chars_utf8 inner chars_) (ascii (codes "-->") refl))

@@ -16,7 +16,7 @@ use Rattle.xt_spec.specs.Tree.{Items, nil, element, leaf, text_item, reference_i
 use Rattle.xt_spec.specs.Text.{TextPart, data_part, reference_part, section_part, part_text, parts_text, AreTextParts, IsTextItem, begins_with_data}
 use Rattle.xt_spec.specs.Reading.{are_distinct, attribute_names, tag_ending, IsElementAt, IsContent, Stage, before_doctype, before_root, behind_root, begins_with_space, Leads}
 use Rattle.xt_lex.specs.Place.{Follows}
-use Rattle.xt_read.specs.Run.{Body, document_body, content_body, IsBody, data_piece, part_piece, reference_piece, comment_piece, pi_piece, doctype_piece, Tok, start_tok, empty_tok, end_tok, piece_tok, tok_text, IsOfKind, IsToken, OpenElement, State, begin, with_text, longer, is_top, is_content, begins_root, begins_document, behind_element, has_room, with_item, with_more, with_doctype, closed, step, Reads, done, more, has_ended, IsRead}
+use Rattle.xt_read.specs.Run.{Body, document_body, content_body, IsBody, data_piece, part_piece, reference_piece, comment_piece, pi_piece, doctype_piece, Tok, start_tok, empty_tok, end_tok, piece_tok, tok_text, IsOfKind, IsToken, OpenElement, State, begin, with_text, longer, is_top, is_content, begins_root, begins_document, behind_element, has_room, with_item, with_more, with_doctype, closed, step, Reads, has_ended, IsRead, here, past}
 use Rattle.xt_read.proofs.ItemLemmas as items
 
 -- the token stands in front of what follows it
@@ -31,7 +31,7 @@ stands tok kind rest spelled follows of_kind = record {
 -- a step with the token in front
 pub reads_step : (s t u : State) (tok : Tok) (kind : TokenKind) (rest : List ℕ) → Spells kind (tok_text tok) → (kind ≡ char_data → Follows rest) → IsOfKind kind tok → step s tok ≡ Some t → Reads t rest u → Reads s (tok_text tok ++ rest) u
 reads_step s t u tok kind rest spelled follows of_kind steps run =
-    more s t u (tok_text tok ++ rest) tok (stands tok kind rest spelled follows of_kind) steps
+    past s t u (tok_text tok ++ rest) [] tok (stands tok kind rest spelled follows of_kind) steps
     (subst (λ (r : List ℕ). Reads t r u) (sym (drop_at (tok_text tok) rest (length (tok_text tok)) refl)) run)
 
 -- a reference begins with `&`
@@ -138,7 +138,7 @@ parts_read opened stage items text (reference_part t c ∷ ps) rest u is_in are 
     (parts_read opened stage items (Some (longer text t)) ps rest u is_in are.1 follows run))
 parts_read opened stage items text (section_part t content ∷ ps) rest u is_in are follows run =
     subst (λ (r : List ℕ). Reads (at opened stage items text) r u) (sym (append_assoc t (parts_text ps) rest))
-    (reads_step (at opened stage items text) (at opened stage items (Some (longer text t))) u (piece_tok part_piece t) cdata_section (parts_text ps ++ rest) (content, are.0.0, are.0.1, are.0.2) (λ k. cc) (inl refl) (when_true _ _ _ is_in)
+    (reads_step (at opened stage items text) (at opened stage items (Some (longer text t))) u (piece_tok part_piece t) cdata_section (parts_text ps ++ rest) (content, are.0) (λ k. cc) (inl refl) (when_true _ _ _ is_in)
     (parts_read opened stage items (Some (longer text t)) ps rest u is_in are.1 follows run))
 
 text_reads : (opened : List OpenElement) (stage : Option Stage) (items : List Item) (text : Option (List ℕ)) (t rest : List ℕ) (u : State) → IsIn opened stage → IsTextItem t → Follows rest
@@ -496,10 +496,10 @@ top_stage stage last items text (leaf comment_item t list) is = top_stage stage 
 top_stage stage last items text (leaf pi_item t list) is = top_stage stage last (with_text items text ++ leaf_item pi_item t ∷ []) None list is.1
 
 body_reads : (body : Body) (list : Items) → IsBody body list → Reads (begin body) (source_text list) (fed (begin body) list)
-body_reads document_body list is = top_reads before_doctype behind_root [] None list (fed (begin document_body) list) is (done (fed (begin document_body) list))
+body_reads document_body list is = top_reads before_doctype behind_root [] None list (fed (begin document_body) list) is (here (fed (begin document_body) list) [])
 body_reads content_body list is =
     subst (λ (t : List ℕ). Reads (begin content_body) t (fed (begin content_body) list)) (append-nil (source_text list))
-    (content_reads [] None [] None list [] (fed (begin content_body) list) refl is tt (done (fed (begin content_body) list)))
+    (content_reads [] None [] None list [] (fed (begin content_body) list) refl is tt (here (fed (begin content_body) list) []))
 
 body_ended : (body : Body) (list : Items) → IsBody body list → has_ended (fed (begin body) list).stage ≡ true
 body_ended document_body list is = ap has_ended (top_stage before_doctype behind_root [] None list is)

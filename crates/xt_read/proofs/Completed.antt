@@ -7,8 +7,7 @@ use Rattle.xt_spec.specs.Tag.{Tag, IsTag}
 use Rattle.xt_spec.specs.Token.{empty_tag, end_tag}
 use Rattle.xt_spec.specs.Tree.{Items, Item, nil, element_item, items_of, source_text}
 use Rattle.xt_spec.specs.Reading.{are_distinct, is_before_root, Stage, before_doctype, before_root, behind_root}
-use Rattle.xt_read.specs.Faults.{Passes}
-use Rattle.xt_read.specs.Run.{Body, empty_tok, end_tok, OpenElement, State, begin, with_text, has_room, Reads, done, IsBody, IsWhole}
+use Rattle.xt_read.specs.Run.{Body, empty_tok, end_tok, OpenElement, State, begin, with_text, has_room, Reads, IsBody, IsWhole, Passes, here}
 use Rattle.xt_read.proofs.Runs.{passes_reads}
 use Rattle.xt_read.proofs.Complete.{at, reads_step, when_true, both_true, room, same_bytes, follows_end_tag}
 use Rattle.xt_read.proofs.Sound.{AreNamed, passes_named, read_is_body}
@@ -57,12 +56,12 @@ root_read items text stage first = record {
   reads = reads_step (at [] (Some stage) items text) (with_root items text) (with_root items text) (empty_tok (codes "<a/>") []) empty_tag [] (root_tag, root_is_tag, refl) (λ k. cc)
       (refl, codes "a", record { tag = root_tag; parts = root_is_tag; spelled = refl; is_name = refl; are_names = refl })
       (when_true (has_room (at [] (Some stage) items text) && are_distinct []) _ _ (both_true (has_room (at [] (Some stage) items text)) (are_distinct []) (room [] (Some stage) items text (lit< tt) (λ top. first)) refl))
-      (done (with_root items text));
+      (here (with_root items text) []);
   whole = record { closed = refl; ended = refl };
 }
 
 nothing_read : (s : State) → IsWhole s → IsCompleted s []
-nothing_read s whole = record { last = s; reads = done s; whole = whole }
+nothing_read s whole = record { last = s; reads = here s []; whole = whole }
 
 completes : (opened : List OpenElement) (items : List Item) (text : Option (List ℕ)) (stage : Option Stage) → AreNamed opened → IsCompleted (at opened stage items text) (completion opened stage)
 completes [] items text None named = nothing_read (at [] None items text) (record { closed = refl; ended = refl })

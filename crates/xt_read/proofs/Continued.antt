@@ -4,8 +4,7 @@ use Rattle.std.proofs.lemmas.List.{drop_at, append_cancel_right}
 use Rattle.xt_spec.specs.Token.{char_data, IsFront}
 use Rattle.xt_lex.specs.Place.{Follows}
 use Rattle.xt_lex.proofs.Theorems.{kinds, markup_begins}
-use Rattle.xt_read.specs.Faults.{Passes, here, past}
-use Rattle.xt_read.specs.Run.{Tok, tok_text, IsToken, State}
+use Rattle.xt_read.specs.Run.{Tok, tok_text, IsToken, State, Passes, here, past}
 use Rattle.xt_read.proofs.Tokens.{token_some}
 use Rattle.xt_read.proofs.Complete.{stands}
 use Rattle.xt_read.proofs.Sound.{NoData, no_data_after, longest_of, spelled_text, split_front}

@@ -8,7 +8,7 @@ use Rattle.xt_spec.specs.Reference.{StandsFor}
 use Rattle.xt_read.proofs.ValueParts.{skip_same, same_same, reference_same}
 use Rattle.std.specs.Str.{IsCharBoundary}
 use Rattle.std.specs.List.{prefix_len}
-use Rattle.xt_lex.specs.Scan.{take_while, drop_while}
+use Rattle.xt_scan.specs.Step.{take_while, drop_while}
 use Rattle.xt_read.specs.References.{is_other, LacksByte, IsUpToSemicolon, Edge, BeginsReference, IsSame, IsPastReference}
 use Rattle.xt_read.proofs.TokenSteps.{cut_behind}
 

@@ -5,17 +5,16 @@ use Rattle.std.proofs.Math.Utf8.{encode}
 use Rattle.xt_spec.specs.Declaration.{Declaration}
 use Rattle.xt_spec.specs.Reading.{mark, document, plain_text, behind_root, IsOrdered, IsReading}
 use Rattle.xt_spec.specs.Token.{start_tag, end_tag, Spells}
-use Rattle.xt_spec.specs.Tree.{Items, nil, leaf, text_item}
+use Rattle.xt_spec.specs.Tree.{Items, nil, leaf, text_item, gap}
 use Rattle.xt_lex.proofs.Theorems.{token_longest, plain_is_ncname, ascii}
-use Rattle.xt_read.specs.Faults.{here, past, IsFaultOf}
+use Rattle.xt_read.specs.Faults.{IsFaultOf}
 use Rattle.xt_spec.specs.Front.{NoDeclared, BeginsBody}
-use Rattle.xt_spec.specs.FirstFault.{not_well_formed, IsFirstNoChar, IsFirstFault}
-use Rattle.xt_read.specs.Front.{form_of, IsFront}
-use Rattle.xt_read.specs.Run.{Tok, start_tok, end_tok, IsToken, State, document_body, begin}
+use Rattle.xt_spec.specs.FirstFault.{not_well_formed, HasBodyAt, IsFirstNoChar, IsFirstFault}
+use Rattle.xt_read.specs.Front.{form_of, gaps_to}
+use Rattle.xt_read.specs.Run.{Tok, start_tok, end_tok, IsToken, State, document_body, begin, here, past}
 use Rattle.xt_read.specs.declared.front.FileRole.TheVariants as file
 use Rattle.xt_read.specs.declared.front.MarkupRole.TheVariants as role
-use Rattle.xt_read.specs.declared.unread.Unread.TheVariants as unread
-use Rattle.xt_read.proofs.Fronts.{after_none, unmarked, is_front, one_begin}
+use Rattle.xt_read.proofs.Fronts.{one_begin}
 use Rattle.xt_read.proofs.FirstFaults.{first_of, no_first_fault, one_first_fault}
 use Rattle.xt_read.proofs.PlainTexts.{no_first_no_char, one_first_no_char}
 
@@ -108,16 +107,23 @@ none_in_crossed form d =
 begins_crossed : BeginsBody (form_of role.Document) crossed 0
 begins_crossed = record { len = 0; takes = inr (none_in_crossed _, refl); to_is = refl }
 
-nothing_in_front : IsFront role.Document crossed nil 0
-nothing_in_front = is_front role.Document crossed nil 0 (unmarked _ document_body crossed nil 0 refl (after_none _ document_body crossed (none_in_crossed _))) begins_crossed
+body_at_once : HasBodyAt (form_of role.Document) crossed 0
+body_at_once = record { known = λ foreign. none_in_crossed _ foreign.0; begins = begins_crossed }
 
-fault_of_the_steps : IsFaultOf file.Document crossed (unread.NotWellFormed 3)
+-- no gap stands in front of it
+no_gap_in_front : gaps_to crossed 0 ≡ nil
+no_gap_in_front = refl
+
+-- a byte order mark is a gap in front
+mark_in_front : gaps_to (mark ++ codes "<a/>") 3 ≡ leaf gap mark nil
+mark_in_front = refl
+
+fault_of_the_steps : IsFaultOf file.Document crossed (not_well_formed 3)
 fault_of_the_steps = (
   ascii crossed refl,
   record {
-    front = nil;
     to = 0;
-    is = nothing_in_front;
+    body = body_at_once;
     fault = record {
       at = 3;
       order = omega arith;
@@ -131,7 +137,7 @@ fault_of_the_steps = (
 
 -- the end-tag may not stand: its place is that of the first fault
 fault_at_the_end_tag : IsFirstFault document crossed (not_well_formed 3)
-fault_at_the_end_tag = first_of file.Document crossed (unread.NotWellFormed 3) fault_of_the_steps
+fault_at_the_end_tag = first_of file.Document crossed (not_well_formed 3) fault_of_the_steps
 
 -- .. and no other place is
 no_fault_at_the_start_tag : IsFirstFault document crossed (not_well_formed 0) → ⊥

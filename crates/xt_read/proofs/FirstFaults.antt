@@ -1,7 +1,7 @@
 -- The faults of a reading from left to right are the first faults of `xt_spec`: a text is read up to a place exactly where its
 -- longest tokens up to there are the front of something whole.
-use Rattle.std.proofs.Common.{zero, suc, ◌≡◌, ◌≢◌, ◌∙◌, ℕ, ◌+◌, ◌-◌, ◌<◌, ◌≤◌, List, [], ◌∷◌, ◌++◌, length, take, drop, refl, sym, ap, subst, arith, Option, Some, None, append_assoc, inl, inr, ◌⊎◌, Bool, true, false, not, ◌&&◌, nat_lt, nat_le, nat_eq, bytes_eq, if◌then◌else◌, IfSome}
-use Rattle.std.proofs.lemmas.Bool.{cases_Bool, cases_lt}
+use Rattle.std.proofs.Common.{◌≡◌, ◌∙◌, ℕ, ◌+◌, ◌-◌, ◌≤◌, List, [], ◌∷◌, ◌++◌, length, take, drop, refl, sym, ap, subst, arith, Option, Some, None, append_assoc, inl, inr, ◌⊎◌, Bool, true, false, not, ◌&&◌, nat_lt, nat_le, nat_eq, bytes_eq, if◌then◌else◌}
+use Rattle.std.proofs.lemmas.Bool.{cases_lt}
 use Rattle.std.proofs.lemmas.Bool.Decides.{nat_tests}
 use Rattle.std.proofs.lemmas.List.{drop-drop, length-drop, length-append, take-append-drop, length-take-le}
 use Rattle.std.proofs.lemmas.Str.{utf8_valid_len-IsValidUpTo}
@@ -10,31 +10,28 @@ use Rattle.std.specs.List.{list_all, starts_with}
 use Rattle.std.specs.Str.{IsUtf8, IsValidUpTo}
 use Rattle.xt_spec.specs.Limit.{most_levels}
 use Rattle.xt_spec.specs.Char.{is_space}
-use Rattle.xt_spec.specs.Declaration.{Declaration, is_utf8_or_absent}
+use Rattle.xt_spec.specs.Declaration.{Declaration}
 use Rattle.xt_spec.specs.Token.{TokenKind, IsLongestFront}
-use Rattle.xt_spec.specs.Tree.{Items, items_of, source_text, nil, leaf, gap}
-use Rattle.xt_spec.specs.Reading.{are_distinct, mark, Role, document, entity, fragment, plain_text, DeclaresUtf8, IsReading}
+use Rattle.xt_spec.specs.Tree.{Items, items_of, source_text}
+use Rattle.xt_spec.specs.Reading.{are_distinct, mark, Role, document, entity, fragment, plain_text, IsReading}
 use Rattle.xt_spec.specs.Front as front
-use Rattle.xt_spec.specs.Front.{StandsDeclared, IsForeign, after_mark, mark_len, TakesDeclared, BeginsBody}
-use Rattle.xt_spec.specs.FirstFault as first
-use Rattle.xt_spec.specs.FirstFault.{ReadingFault, open_behind, begins_too_deep, AreTokens, no_tokens, token_before, IsFrontOf, IsReadTo, IsStopped, no_token, misplaced, too_early, IsIllFormed, IsTooDeep, HasBodyAt, IsIllFormedBehind, IsTooDeepBehind, IsFirstFault}
+use Rattle.xt_spec.specs.Front.{after_mark, mark_len, TakesDeclared, BeginsBody}
+use Rattle.xt_spec.specs.FirstFault.{ReadingFault, not_utf8, encoding, not_well_formed, too_deep, open_behind, begins_too_deep, AreTokens, no_tokens, token_before, IsFrontOf, IsReadTo, IsStopped, no_token, misplaced, too_early, IsIllFormed, IsTooDeep, IsIllFormedBehind, IsTooDeepBehind, IsFirstFault}
 use Rattle.xt_lex.proofs.Theorems.{front_some}
-use Rattle.xt_read.specs.Run.{Body, content_body, IsBody, Tok, start_tok, empty_tok, end_tok, piece_tok, Piece, data_piece, part_piece, reference_piece, comment_piece, pi_piece, declaration_piece, doctype_piece, tok_text, IsPiece, IsOfKind, IsToken, OpenElement, State, begin, is_inside, is_top, begins_document, has_room, is_too_deep, closed, piece_step, step, IsWhole, with_text}
-use Rattle.xt_read.specs.Front.{role_of, markup_role_of, form_of, body_for, IsFront}
-use Rattle.xt_read.specs.Faults.{reading_fault, Passes, here, past, IsHalt, IsHaltAt, IsBodyFault, IsBehindFront, IsTextFault, IsFaultOf}
+use Rattle.xt_read.specs.Run.{Body, content_body, IsBody, Tok, start_tok, empty_tok, end_tok, piece_tok, Piece, data_piece, part_piece, reference_piece, comment_piece, pi_piece, declaration_piece, doctype_piece, tok_text, IsPiece, IsOfKind, IsToken, OpenElement, State, begin, is_inside, is_top, begins_document, has_room, is_too_deep, closed, piece_step, step, IsWhole, with_text, Passes, here, past}
+use Rattle.xt_read.specs.Front.{role_of, markup_role_of, form_of, body_for}
+use Rattle.xt_read.specs.Faults.{IsHalt, IsHaltAt, IsBodyFault, IsBehindFront, IsTextFault, IsFaultOf}
 use Rattle.xt_read.specs.declared.front.FileRole.{FileRole}
 use Rattle.xt_read.specs.declared.front.FileRole.TheVariants as file
 use Rattle.xt_read.specs.declared.front.MarkupRole.{MarkupRole}
 use Rattle.xt_read.specs.declared.front.MarkupRole.TheVariants as markup
-use Rattle.xt_read.specs.declared.unread.Unread.{Unread}
-use Rattle.xt_read.specs.declared.unread.Unread.TheVariants.{NotUtf8, Encoding, NotWellFormed, TooDeep, NoMemory}
 use Rattle.xt_read.proofs.Complete.{body_is_read}
 use Rattle.xt_read.proofs.Sound.{read_is_body}
-use Rattle.xt_read.proofs.Tokens.{token_some, token_within}
-use Rattle.xt_read.proofs.Runs.{some_same, passes_push, passes_all, one_run, no_items, one_list}
+use Rattle.xt_read.proofs.Tokens.{token_within}
+use Rattle.xt_read.proofs.Runs.{some_same, passes_push, one_run, no_items, one_list}
 use Rattle.xt_read.proofs.Completed.{front_goes_on}
 use Rattle.xt_read.proofs.Refused.{misplaced_ends}
-use Rattle.xt_read.proofs.Fronts.{begins_mark, IsAfter, after_none, after_declared, unmarked, marked, is_front, one_tree, one_entity}
+use Rattle.xt_read.proofs.Fronts.{begins_mark, one_tree, one_entity}
 use Rattle.xt_read.proofs.PlainTexts.{one_text}
 use Rattle.xt_read.proofs.NoFaults.{no_fault, one_fault, one_body_fault}
 use Rattle.xt_read.proofs.SomeReading.{some_token, valid_up_to, some_body, reads_or_faults}
@@ -233,13 +230,13 @@ none_of s tok never = by (step s tok) refl
 whole_body : (body : Body) (text : List ℕ) (s : State) → Passes (begin body) text s [] → IsWhole s → (items : Items) × IsBody body items × (source_text items ≡ text)
 whole_body body text s passes whole =
     let items = items_of (with_text s.items s.text) in
-    let is = read_is_body body text items (record { last = s; reads = passes_all (begin body) s text passes; whole = whole; are = refl }) in
+    let is = read_is_body body text items (record { last = s; reads = passes; whole = whole; are = refl }) in
     (items, is.0, is.1)
 
 body_whole : (body : Body) (text : List ℕ) (s : State) (items : Items) → Passes (begin body) text s [] → IsBody body items → source_text items ≡ text → IsWhole s
 body_whole body text s items passes holds joined =
     let read = body_is_read body text items holds joined in
-    subst IsWhole (one_run (begin body) read.last s text read.reads (passes_all (begin body) s text passes)) read.whole
+    subst IsWhole (one_run (begin body) read.last s text read.reads passes) read.whole
 
 -- the place of a fault, counted from where the body begins
 record IsBehind (body : Body) (text : List ℕ) (from at : ℕ) (s : State) : Type 0 where
@@ -249,7 +246,7 @@ record IsBehind (body : Body) (text : List ℕ) (from at : ℕ) (s : State) : Ty
   rest : drop at text ≡ drop n (drop from text)
   passes : Passes (begin body) (drop from text) s (drop n (drop from text))
 
-is_behind : (body : Body) (text : List ℕ) (from : ℕ) (fault : Unread) → (is : IsBodyFault body text from fault) → IsBehind body text from is.at is.state
+is_behind : (body : Body) (text : List ℕ) (from : ℕ) (fault : ReadingFault) → (is : IsBodyFault body text from fault) → IsBehind body text from is.at is.state
 is_behind body text from fault is =
     let size : is.at ≡ from + (is.at - from) = omega (arith, is.order) in
     let rest : drop is.at text ≡ drop (is.at - from) (drop from text) = ap (λ k. drop k text) size ∙ sym (drop-drop (is.at - from) from text) in
@@ -270,9 +267,9 @@ stops body text n s passes (inr (inr (end, never))) =
     too_early end (λ items holds joined. never (body_whole body text s items (subst (Passes (begin body) text s) end passes) holds joined))
 
 -- the steps' fault is that of the definition
-ill_forth : (body : Body) (text : List ℕ) (from at : ℕ) → IsBodyFault body text from (NotWellFormed at) → (n : ℕ) × (at ≡ from + n) × IsIllFormed (IsBody body) (drop from text) n
+ill_forth : (body : Body) (text : List ℕ) (from at : ℕ) → IsBodyFault body text from (not_well_formed at) → (n : ℕ) × (at ≡ from + n) × IsIllFormed (IsBody body) (drop from text) n
 ill_forth body text from at is =
-    let b = is_behind body text from (NotWellFormed at) is in (
+    let b = is_behind body text from (not_well_formed at) is in (
       b.n,
       is.halts.0 ∙ b.at_is,
       record {
@@ -282,9 +279,9 @@ ill_forth body text from at is =
       },
     )
 
-deep_forth : (body : Body) (text : List ℕ) (from : ℕ) → IsBodyFault body text from TooDeep → IsTooDeep (IsBody body) (drop from text)
+deep_forth : (body : Body) (text : List ℕ) (from : ℕ) → IsBodyFault body text from too_deep → IsTooDeep (IsBody body) (drop from text)
 deep_forth body text from is =
-    let b = is_behind body text from TooDeep is in
+    let b = is_behind body text from too_deep is in
     let deep = is.halts in
     record {
       at = b.n;
@@ -297,7 +294,7 @@ deep_forth body text from is =
     }
 
 -- .. and the other way
-faulty : (body : Body) (text : List ℕ) (from n : ℕ) (s : State) (fault : Unread) → from ≤ length text → n ≤ length (drop from text) → Passes (begin body) (drop from text) s (drop n (drop from text)) → IsHaltAt text (from + n) s fault → IsBodyFault body text from fault
+faulty : (body : Body) (text : List ℕ) (from n : ℕ) (s : State) (fault : ReadingFault) → from ≤ length text → n ≤ length (drop from text) → Passes (begin body) (drop from text) s (drop n (drop from text)) → IsHaltAt text (from + n) s fault → IsBodyFault body text from fault
 faulty body text from n s fault start within passes halts = record {
   at = from + n;
   order = omega arith;
@@ -325,51 +322,22 @@ halts_by body text n opened s passes size (misplaced kind k longest shallow neve
 halts_by body text n opened s passes size (too_early none never) =
     inr (inr (none, λ whole. let (items, holds, joined) = whole_body body text s (subst (Passes (begin body) text s) none passes) whole in never items holds joined))
 
-ill_back : (body : Body) (text : List ℕ) (from at n : ℕ) → from ≤ length text → at ≡ from + n → IsIllFormed (IsBody body) (drop from text) n → IsBodyFault body text from (NotWellFormed at)
+ill_back : (body : Body) (text : List ℕ) (from at n : ℕ) → from ≤ length text → at ≡ from + n → IsIllFormed (IsBody body) (drop from text) n → IsBodyFault body text from (not_well_formed at)
 ill_back body text from at n start at_is is =
     let (s, passes, size) = end_is_read body (drop from text) n is.opened is.read in
-    faulty body text from n s (NotWellFormed at) start is.read.within passes (at_is, subst (IsHalt s) (drop-drop n from text) (halts_by body (drop from text) n is.opened s passes size is.stopped))
+    faulty body text from n s (not_well_formed at) start is.read.within passes (at_is, subst (IsHalt s) (drop-drop n from text) (halts_by body (drop from text) n is.opened s passes size is.stopped))
 
-deep_back : (body : Body) (text : List ℕ) (from : ℕ) → from ≤ length text → IsTooDeep (IsBody body) (drop from text) → IsBodyFault body text from TooDeep
+deep_back : (body : Body) (text : List ℕ) (from : ℕ) → from ≤ length text → IsTooDeep (IsBody body) (drop from text) → IsBodyFault body text from too_deep
 deep_back body text from start is =
     let (s, passes, size) = end_is_read body (drop from text) is.at is.opened is.read in
     let found = some_token (drop is.at (drop from text)) is.kind is.n is.token in
-    faulty body text from is.at s TooDeep start is.read.within passes (record {
+    faulty body text from is.at s too_deep start is.read.within passes (record {
       tok = found.0;
       is = subst (IsToken found.0) (drop-drop is.at from text) found.1;
       level = deep_by s found.0 (drop is.at (drop from text)) is.opened is.kind is.n true found.1 is.token size is.deep;
     })
 
 -- ---- the front
-
-declares_utf8 : (form : Declaration → Bool) (text : List ℕ) (d : StandsDeclared form text) → ¬ IsForeign form text → is_utf8_or_absent d.declares.encoding ≡ true
-declares_utf8 form text d known = elim (cases_Bool (is_utf8_or_absent d.declares.encoding)) [
-  | inl is ↦ is
-  | inr foreign ↦ absurd (known (d, foreign))
-]
-
-after_of : (r : MarkupRole) (text : List ℕ) (len : ℕ) → TakesDeclared (form_of r) text len → ¬ IsForeign (form_of r) text → (front : Items) × IsAfter (form_of r) (body_for r) text front len
-after_of r text len (inl (d, size)) known =
-    (leaf gap d.spelled nil, after_declared (form_of r) (body_for r) text d.spelled d.rest len (d.declares, d.is, d.has_form, declares_utf8 (form_of r) text d known) d.stands size)
-after_of r text len (inr (none, no_bytes)) known = (nil, subst (IsAfter (form_of r) (body_for r) text nil) (sym no_bytes) (after_none (form_of r) (body_for r) text none))
-
--- these gaps stand in front of a body that begins at a place
-front_at : (r : MarkupRole) (text : List ℕ) (to : ℕ) → HasBodyAt (form_of r) text to → (front : Items) × IsFront r text front to
-front_at r text to has = by (after_of r (after_mark text) has.begins.len has.begins.takes has.known) (starts_with nat_eq text mark) refl
-  where
-    by : (front : Items) × IsAfter (form_of r) (body_for r) (after_mark text) front has.begins.len → (b : Bool) → starts_with nat_eq text mark ≡ b → (front : Items) × IsFront r text front to
-    by (front, after) true starts =
-        let three : mark_len text ≡ 3 = rw starts refl in
-        let plain : after_mark text ≡ drop 3 text = rw starts refl in
-        let size : to ≡ 3 + has.begins.len = omega (arith, has.begins.to_is, three) in
-        let behind = subst (λ t. IsAfter (form_of r) (body_for r) t front has.begins.len) plain after in
-        (leaf gap mark front, is_front r text (leaf gap mark front) to (marked (form_of r) (body_for r) text front has.begins.len to starts size behind) has.begins)
-    by (front, after) false none =
-        let zero_long : mark_len text ≡ 0 = rw none refl in
-        let plain : after_mark text ≡ text = rw none refl in
-        let size : has.begins.len ≡ to = omega (arith, has.begins.to_is, zero_long) in
-        let behind = subst (IsAfter (form_of r) (body_for r) text front) size (subst (λ t. IsAfter (form_of r) (body_for r) t front has.begins.len) plain after) in
-        (front, is_front r text front to (unmarked (form_of r) (body_for r) text front to none behind) has.begins)
 
 mark_within : (text : List ℕ) → mark_len text + length (after_mark text) ≡ length text
 mark_within text = by (starts_with nat_eq text mark) refl
@@ -409,122 +377,94 @@ deep_from : (r : MarkupRole) (text : List ℕ) → IsTooDeep (front.IsBody (mark
 deep_from markup.Document text is = is
 deep_from markup.Entity text is = is
 
-ill_behind : (r : MarkupRole) (text : List ℕ) (at : ℕ) → IsBehindFront r text (NotWellFormed at) → IsIllFormedBehind (markup_role_of r) text at
+ill_behind : (r : MarkupRole) (text : List ℕ) (at : ℕ) → IsBehindFront r text (not_well_formed at) → IsIllFormedBehind (markup_role_of r) text at
 ill_behind r text at is =
     let (n, at_is, ill) = ill_forth (body_for r) text is.to at is.fault in
-    record { to = is.to; body = record { known = is.is.known; begins = is.is.begins }; n = n; at_is = at_is; fault = ill_as r (drop is.to text) n ill }
+    record { to = is.to; body = is.body; n = n; at_is = at_is; fault = ill_as r (drop is.to text) n ill }
 
-deep_behind : (r : MarkupRole) (text : List ℕ) → IsBehindFront r text TooDeep → IsTooDeepBehind (markup_role_of r) text
+deep_behind : (r : MarkupRole) (text : List ℕ) → IsBehindFront r text too_deep → IsTooDeepBehind (markup_role_of r) text
 deep_behind r text is =
-    record { to = is.to; body = record { known = is.is.known; begins = is.is.begins }; fault = deep_as r (drop is.to text) (deep_forth (body_for r) text is.to is.fault) }
+    record { to = is.to; body = is.body; fault = deep_as r (drop is.to text) (deep_forth (body_for r) text is.to is.fault) }
 
-behind_ill : (r : MarkupRole) (text : List ℕ) (at : ℕ) → IsIllFormedBehind (markup_role_of r) text at → IsBehindFront r text (NotWellFormed at)
+behind_ill : (r : MarkupRole) (text : List ℕ) (at : ℕ) → IsIllFormedBehind (markup_role_of r) text at → IsBehindFront r text (not_well_formed at)
 behind_ill r text at is =
-    let (items, stands) = front_at r text is.to is.body in
-    record { front = items; to = is.to; is = stands; fault = ill_back (body_for r) text is.to at is.n (begins_within (form_of r) text is.to is.body.begins) is.at_is (ill_from r (drop is.to text) is.n is.fault) }
+    record { to = is.to; body = is.body; fault = ill_back (body_for r) text is.to at is.n (begins_within (form_of r) text is.to is.body.begins) is.at_is (ill_from r (drop is.to text) is.n is.fault) }
 
-behind_deep : (r : MarkupRole) (text : List ℕ) → IsTooDeepBehind (markup_role_of r) text → IsBehindFront r text TooDeep
+behind_deep : (r : MarkupRole) (text : List ℕ) → IsTooDeepBehind (markup_role_of r) text → IsBehindFront r text too_deep
 behind_deep r text is =
-    let (items, stands) = front_at r text is.to is.body in
-    record { front = items; to = is.to; is = stands; fault = deep_back (body_for r) text is.to (begins_within (form_of r) text is.to is.body.begins) (deep_from r (drop is.to text) is.fault) }
+    record { to = is.to; body = is.body; fault = deep_back (body_for r) text is.to (begins_within (form_of r) text is.to is.body.begins) (deep_from r (drop is.to text) is.fault) }
 
--- a fault that the reader answers is the first one
-text_first : (r : FileRole) (text : List ℕ) (e : Unread) → IsUtf8 text → IsTextFault r text e → IfSome (reading_fault e) (IsFirstFault (role_of r) text)
-text_first file.Document text (NotUtf8 at) utf8 is = absurd is
-text_first file.Document text Encoding utf8 is = (utf8, is)
-text_first file.Document text (NotWellFormed at) utf8 is = (utf8, ill_behind markup.Document text at is)
-text_first file.Document text TooDeep utf8 is = (utf8, deep_behind markup.Document text is)
-text_first file.Document text NoMemory utf8 is = tt
-text_first file.Entity text (NotUtf8 at) utf8 is = absurd is
-text_first file.Entity text Encoding utf8 is = (utf8, is)
-text_first file.Entity text (NotWellFormed at) utf8 is = (utf8, ill_behind markup.Entity text at is)
-text_first file.Entity text TooDeep utf8 is = (utf8, deep_behind markup.Entity text is)
-text_first file.Entity text NoMemory utf8 is = tt
-text_first file.Text text (NotUtf8 at) utf8 is = absurd is
-text_first file.Text text Encoding utf8 is = absurd is
-text_first file.Text text (NotWellFormed at) utf8 is = (utf8, is)
-text_first file.Text text TooDeep utf8 is = absurd is
-text_first file.Text text NoMemory utf8 is = tt
+-- a fault of the steps is the first one
+text_first : (r : FileRole) (text : List ℕ) (f : ReadingFault) → IsUtf8 text → IsTextFault r text f → IsFirstFault (role_of r) text f
+text_first file.Document text (not_utf8 at) utf8 is = absurd is
+text_first file.Document text encoding utf8 is = (utf8, is)
+text_first file.Document text (not_well_formed at) utf8 is = (utf8, ill_behind markup.Document text at is)
+text_first file.Document text too_deep utf8 is = (utf8, deep_behind markup.Document text is)
+text_first file.Entity text (not_utf8 at) utf8 is = absurd is
+text_first file.Entity text encoding utf8 is = (utf8, is)
+text_first file.Entity text (not_well_formed at) utf8 is = (utf8, ill_behind markup.Entity text at is)
+text_first file.Entity text too_deep utf8 is = (utf8, deep_behind markup.Entity text is)
+text_first file.Text text (not_utf8 at) utf8 is = absurd is
+text_first file.Text text encoding utf8 is = absurd is
+text_first file.Text text (not_well_formed at) utf8 is = (utf8, is)
+text_first file.Text text too_deep utf8 is = absurd is
 
-pub first_of : (r : FileRole) (bytes : List ℕ) (e : Unread) → IsFaultOf r bytes e → IfSome (reading_fault e) (IsFirstFault (role_of r) bytes)
-first_of r bytes (NotUtf8 at) is = is
-first_of r bytes Encoding is = text_first r bytes Encoding is.0 is.1
-first_of r bytes (NotWellFormed at) is = text_first r bytes (NotWellFormed at) is.0 is.1
-first_of r bytes TooDeep is = text_first r bytes TooDeep is.0 is.1
-first_of r bytes NoMemory is = tt
+pub first_of : (r : FileRole) (bytes : List ℕ) (f : ReadingFault) → IsFaultOf r bytes f → IsFirstFault (role_of r) bytes f
+first_of r bytes (not_utf8 at) is = is
+first_of r bytes encoding is = text_first r bytes encoding is.0 is.1
+first_of r bytes (not_well_formed at) is = text_first r bytes (not_well_formed at) is.0 is.1
+first_of r bytes too_deep is = text_first r bytes too_deep is.0 is.1
 
--- .. and the first one is a fault of the reader
-unread_of : ReadingFault → Unread
-unread_of (first.not_utf8 at) = NotUtf8 at
-unread_of first.encoding = Encoding
-unread_of (first.not_well_formed at) = NotWellFormed at
-unread_of first.too_deep = TooDeep
-
-unread_same : (f : ReadingFault) → reading_fault (unread_of f) ≡ Some f
-unfolding unread_of
-unread_same (first.not_utf8 at) = refl
-unread_same first.encoding = refl
-unread_same (first.not_well_formed at) = refl
-unread_same first.too_deep = refl
-
-unread_some : (f : ReadingFault) → unread_of f ≡ NoMemory → ⊥
-unread_some f is = let wrong : Some f ≡ None = sym (unread_same f) ∙ ap reading_fault is in cc
-
-same_fault : (a b : ReadingFault) → unread_of a ≡ unread_of b → a ≡ b
-same_fault a b is = some_same (reading_fault (unread_of a)) a b (unread_same a) (ap reading_fault is ∙ unread_same b)
-
-of_first : (r : FileRole) (bytes : List ℕ) (f : ReadingFault) → IsFirstFault (role_of r) bytes f → IsFaultOf r bytes (unread_of f)
-unfolding unread_of
-of_first r bytes (first.not_utf8 at) is = is
-of_first file.Document bytes first.encoding is = is
-of_first file.Entity bytes first.encoding is = is
-of_first file.Text bytes first.encoding is = absurd (let wrong : false ≡ true = is.1.0.has_form in cc)
-of_first file.Document bytes (first.not_well_formed at) is = (is.0, behind_ill markup.Document bytes at is.1)
-of_first file.Entity bytes (first.not_well_formed at) is = (is.0, behind_ill markup.Entity bytes at is.1)
-of_first file.Text bytes (first.not_well_formed at) is = is
-of_first file.Document bytes first.too_deep is = (is.0, behind_deep markup.Document bytes is.1)
-of_first file.Entity bytes first.too_deep is = (is.0, behind_deep markup.Entity bytes is.1)
-of_first file.Text bytes first.too_deep is = absurd is.1
+-- .. and the first one is a fault of the steps
+of_first : (r : FileRole) (bytes : List ℕ) (f : ReadingFault) → IsFirstFault (role_of r) bytes f → IsFaultOf r bytes f
+of_first r bytes (not_utf8 at) is = is
+of_first file.Document bytes encoding is = is
+of_first file.Entity bytes encoding is = is
+of_first file.Text bytes encoding is = absurd (let wrong : false ≡ true = is.1.0.has_form in cc)
+of_first file.Document bytes (not_well_formed at) is = (is.0, behind_ill markup.Document bytes at is.1)
+of_first file.Entity bytes (not_well_formed at) is = (is.0, behind_ill markup.Entity bytes at is.1)
+of_first file.Text bytes (not_well_formed at) is = is
+of_first file.Document bytes too_deep is = (is.0, behind_deep markup.Document bytes is.1)
+of_first file.Entity bytes too_deep is = (is.0, behind_deep markup.Entity bytes is.1)
+of_first file.Text bytes too_deep is = absurd is.1
 
 -- ---- what is content alone
 
 -- the bytes aren't UTF-8, or the body has the fault
 abbrev IsFragmentFault : List ℕ → ReadingFault → Type 0
-IsFragmentFault bytes f = ((m : ℕ) × (f ≡ first.not_utf8 m) × (¬ IsUtf8 bytes) × IsValidUpTo bytes m) ⊎ (IsUtf8 bytes × IsBodyFault content_body bytes 0 (unread_of f))
+IsFragmentFault bytes f = ((m : ℕ) × (f ≡ not_utf8 m) × (¬ IsUtf8 bytes) × IsValidUpTo bytes m) ⊎ (IsUtf8 bytes × IsBodyFault content_body bytes 0 f)
 
 fragment_fault : (bytes : List ℕ) (f : ReadingFault) → IsFirstFault fragment bytes f → IsFragmentFault bytes f
-unfolding unread_of
-fragment_fault bytes (first.not_utf8 at) is = inl (at, refl, is.0, is.1)
-fragment_fault bytes first.encoding is = absurd (let wrong : false ≡ true = is.1.0.has_form in cc)
-fragment_fault bytes (first.not_well_formed at) is = inr (is.0, ill_back content_body bytes 0 at at (omega arith) (omega arith) is.1)
-fragment_fault bytes first.too_deep is = inr (is.0, deep_back content_body bytes 0 (omega arith) is.1)
+fragment_fault bytes (not_utf8 at) is = inl (at, refl, is.0, is.1)
+fragment_fault bytes encoding is = absurd (let wrong : false ≡ true = is.1.0.has_form in cc)
+fragment_fault bytes (not_well_formed at) is = inr (is.0, ill_back content_body bytes 0 at at (omega arith) (omega arith) is.1)
+fragment_fault bytes too_deep is = inr (is.0, deep_back content_body bytes 0 (omega arith) is.1)
 
 no_fragment_fault : (bytes : List ℕ) (items : Items) (f : ReadingFault) → IsReading fragment bytes items → IsFragmentFault bytes f → ⊥
 no_fragment_fault bytes items f reads (inl (m, is, wrong, valid)) = wrong reads.utf8
-no_fragment_fault bytes items f reads (inr (utf8, is)) = no_items content_body bytes 0 (unread_of f) items is (unread_some f) (body_is_read content_body bytes items reads.ordered reads.joined)
+no_fragment_fault bytes items f reads (inr (utf8, is)) = no_items content_body bytes 0 f items is (body_is_read content_body bytes items reads.ordered reads.joined)
 
 one_fragment_fault : (bytes : List ℕ) (a b : ReadingFault) → IsFragmentFault bytes a → IsFragmentFault bytes b → a ≡ b
-one_fragment_fault bytes a b (inl (m, is, wrong, valid)) (inl (n, also, bad, same)) = is ∙ ap first.not_utf8 (sym (utf8_valid_len-IsValidUpTo bytes m valid) ∙ utf8_valid_len-IsValidUpTo bytes n same) ∙ sym also
+one_fragment_fault bytes a b (inl (m, is, wrong, valid)) (inl (n, also, bad, same)) = is ∙ ap not_utf8 (sym (utf8_valid_len-IsValidUpTo bytes m valid) ∙ utf8_valid_len-IsValidUpTo bytes n same) ∙ sym also
 one_fragment_fault bytes a b (inl (m, is, wrong, valid)) (inr (utf8, other)) = absurd (wrong utf8)
 one_fragment_fault bytes a b (inr (utf8, other)) (inl (m, is, wrong, valid)) = absurd (wrong utf8)
-one_fragment_fault bytes a b (inr (utf8, x)) (inr (same, y)) = same_fault a b (one_body_fault content_body bytes 0 (unread_of a) (unread_of b) x y (unread_some a) (unread_some b))
+one_fragment_fault bytes a b (inr (utf8, x)) (inr (same, y)) = one_body_fault content_body bytes 0 a b x y
 
-some_fragment_fault : (bytes : List ℕ) (e : Unread) → (e ≡ NoMemory → ⊥) → IsUtf8 bytes → IsBodyFault content_body bytes 0 e → (f : ReadingFault) × IsFirstFault fragment bytes f
-some_fragment_fault bytes (NotUtf8 at) some utf8 is = absurd is.halts
-some_fragment_fault bytes Encoding some utf8 is = absurd is.halts
-some_fragment_fault bytes (NotWellFormed at) some utf8 is =
+some_fragment_fault : (bytes : List ℕ) (f : ReadingFault) → IsUtf8 bytes → IsBodyFault content_body bytes 0 f → (f : ReadingFault) × IsFirstFault fragment bytes f
+some_fragment_fault bytes (not_utf8 at) utf8 is = absurd is.halts
+some_fragment_fault bytes encoding utf8 is = absurd is.halts
+some_fragment_fault bytes (not_well_formed at) utf8 is =
     let (n, at_is, ill) = ill_forth content_body bytes 0 at is in
     let same : n ≡ at = omega (arith, at_is) in
-    (first.not_well_formed at, (utf8, subst (IsIllFormed (IsBody content_body) bytes) same ill))
-some_fragment_fault bytes TooDeep some utf8 is = (first.too_deep, (utf8, deep_forth content_body bytes 0 is))
-some_fragment_fault bytes NoMemory some utf8 is = absurd (some refl)
+    (not_well_formed at, (utf8, subst (IsIllFormed (IsBody content_body) bytes) same ill))
+some_fragment_fault bytes too_deep utf8 is = (too_deep, (utf8, deep_forth content_body bytes 0 is))
 
 fragment_or_fault : (bytes : List ℕ) → ((items : Items) × IsReading fragment bytes items) ⊎ ((f : ReadingFault) × IsFirstFault fragment bytes f)
 fragment_or_fault bytes = elim (valid_up_to bytes) [
-  | inr wrong ↦ inr (first.not_utf8 wrong.1, (wrong.0, wrong.2))
+  | inr wrong ↦ inr (not_utf8 wrong.1, (wrong.0, wrong.2))
   | inl utf8 ↦ elim (some_body content_body bytes 0 (omega arith) utf8) [
     | inl read ↦ let main = read_is_body content_body bytes read.0 read.1 in inl (read.0, record { utf8 = utf8; joined = main.1; ordered = main.0 })
-    | inr fault ↦ inr (some_fragment_fault bytes fault.0 fault.1 utf8 fault.2)
+    | inr fault ↦ inr (some_fragment_fault bytes fault.0 utf8 fault.1)
   ]
 ]
 
@@ -533,15 +473,8 @@ fragment_or_fault bytes = elim (valid_up_to bytes) [
 file_or_fault : (r : FileRole) (bytes : List ℕ) → ((items : Items) × IsReading (role_of r) bytes items) ⊎ ((f : ReadingFault) × IsFirstFault (role_of r) bytes f)
 file_or_fault r bytes = elim (reads_or_faults r bytes) [
   | inl read ↦ inl read
-  | inr fault ↦ inr (by fault.0 fault.1 (first_of r bytes fault.0 fault.2))
+  | inr fault ↦ inr (fault.0, first_of r bytes fault.0 fault.1)
 ]
-  where
-    by : (e : Unread) → (e ≢ NoMemory) → IfSome (reading_fault e) (IsFirstFault (role_of r) bytes) → (f : ReadingFault) × IsFirstFault (role_of r) bytes f
-    by (NotUtf8 at) some is = (first.not_utf8 at, is)
-    by Encoding some is = (first.encoding, is)
-    by (NotWellFormed at) some is = (first.not_well_formed at, is)
-    by TooDeep some is = (first.too_deep, is)
-    by NoMemory some is = absurd (some refl)
 
 pub a_reading_or_a_fault : (role : Role) (bytes : List ℕ) → ((items : Items) × IsReading role bytes items) ⊎ ((fault : ReadingFault) × IsFirstFault role bytes fault)
 a_reading_or_a_fault document bytes = file_or_fault file.Document bytes
@@ -550,7 +483,7 @@ a_reading_or_a_fault fragment bytes = fragment_or_fault bytes
 a_reading_or_a_fault plain_text bytes = file_or_fault file.Text bytes
 
 no_file_fault : (r : FileRole) (bytes : List ℕ) (items : Items) (f : ReadingFault) → IsReading (role_of r) bytes items → IsFirstFault (role_of r) bytes f → ⊥
-no_file_fault r bytes items f reads is = unread_some f (no_fault r bytes items (unread_of f) reads (of_first r bytes f is))
+no_file_fault r bytes items f reads is = no_fault r bytes items f reads (of_first r bytes f is)
 
 pub no_first_fault : (role : Role) (bytes : List ℕ) (items : Items) (fault : ReadingFault) → IsReading role bytes items → IsFirstFault role bytes fault → ⊥
 no_first_fault document bytes items f reads is = no_file_fault file.Document bytes items f reads is
@@ -559,7 +492,7 @@ no_first_fault fragment bytes items f reads is = no_fragment_fault bytes items f
 no_first_fault plain_text bytes items f reads is = no_file_fault file.Text bytes items f reads is
 
 one_file_fault : (r : FileRole) (bytes : List ℕ) (a b : ReadingFault) → IsFirstFault (role_of r) bytes a → IsFirstFault (role_of r) bytes b → a ≡ b
-one_file_fault r bytes a b x y = same_fault a b (one_fault r bytes (unread_of a) (unread_of b) (of_first r bytes a x) (of_first r bytes b y) (unread_some a) (unread_some b))
+one_file_fault r bytes a b x y = one_fault r bytes a b (of_first r bytes a x) (of_first r bytes b y)
 
 pub one_first_fault : (role : Role) (bytes : List ℕ) (a b : ReadingFault) → IsFirstFault role bytes a → IsFirstFault role bytes b → a ≡ b
 one_first_fault document bytes a b x y = one_file_fault file.Document bytes a b x y

@@ -1,5 +1,5 @@
 -- A byte order mark and a declaration in their places.
-use Rattle.std.proofs.Common.{◌≡◌, ◌∙◌, List, ℕ, ◌+◌, ◌-◌, ◌<◌, ◌≤◌, ◌^◌, [], ◌∷◌, ◌++◌, length, take, drop, refl, sym, ap, subst, Bool, true, false, IsUtf8, inl, inr, nat_eq, arith, Option, Some, None, ◌==◌, if◌then◌else◌, map, append_assoc}
+use Rattle.std.proofs.Common.{◌≡◌, ◌∙◌, List, ℕ, ◌+◌, ◌-◌, ◌<◌, ◌≤◌, ◌^◌, [], ◌∷◌, ◌++◌, length, take, drop, refl, sym, ap, subst, Bool, true, false, IsUtf8, inl, inr, nat_eq, arith, Option, Some, None, if◌then◌else◌, map, append_assoc}
 use Rattle.std.specs.Prelude.{MatchOption}
 use Rattle.std.proofs.lemmas.List.{drop-drop, length-take, length-drop, map-append}
 use Rattle.std.proofs.lemmas.Slice.Eq.{bytes_eq-Decides}
@@ -9,7 +9,7 @@ use Rattle.std.specs.List.{starts_with}
 use Rattle.std.specs.Str.{IsCharBoundary}
 use Rattle.xt_spec.specs.Declaration.{Declaration, IsDeclarationOf, is_utf8_or_absent}
 use Rattle.xt_spec.specs.Token.{declaration, Spells, NoFront, TokenKind, IsLongestFront}
-use Rattle.xt_spec.specs.Tree.{Items, nil, leaf, gap, append, items_of, source_text}
+use Rattle.xt_spec.specs.Tree.{Items, leaf, gap, append, items_of, source_text}
 use Rattle.xt_spec.specs.Reading.{mark, IsOrdered}
 use Rattle.xt_lex.specs.Kinds.{kind_of}
 use Rattle.xt_lex.specs.declared.token.Kind.{Kind}
@@ -18,14 +18,13 @@ use Rattle.xt_lex.specs.declared.token.Token.{Token}
 use Rattle.xt_lex.specs.declared.token.Span.{Span}
 use Rattle.xt_tree.specs.Meaning.{at_span, item_of, items_in}
 use Rattle.xt_read.specs.Steps.{IsTokenAt}
-use Rattle.xt_spec.specs.Front.{NoDeclared, IsForeign, after_mark, BeginsBody}
-use Rattle.xt_read.specs.Front.{markup_role_of, form_of, body_for, IsFront}
-use Rattle.xt_read.specs.FrontSteps.{IsDeclarationAt, NoDeclarationAt, IsDeclaredAt, front_items, front_len}
+use Rattle.xt_spec.specs.Front.{NoDeclared, IsForeign, after_mark, mark_len, BeginsBody}
+use Rattle.xt_spec.specs.FirstFault.{ReadingFault, not_utf8, encoding, not_well_formed, too_deep, HasBodyAt}
+use Rattle.xt_read.specs.Front.{markup_role_of, form_of, body_for, gap_of, behind_mark, gaps_to}
+use Rattle.xt_read.specs.FrontSteps.{IsDeclarationAt, NoDeclarationAt, IsDeclaredAt, mark_gap, declared_gap, front_items, front_len}
 use Rattle.xt_read.specs.declared.front.FileRole.{FileRole}
 use Rattle.xt_read.specs.declared.front.FileRole.TheVariants as file
 use Rattle.xt_read.specs.declared.front.MarkupRole.{MarkupRole}
-use Rattle.xt_read.specs.declared.unread.Unread.{Unread}
-use Rattle.xt_read.specs.declared.unread.Unread.TheVariants.{NotUtf8, Encoding, NotWellFormed, TooDeep, NoMemory}
 use Rattle.xt_read.specs.Faults.{IsBodyFault, IsMarkupFault, IsTextFault, IsFaultOf}
 use Rattle.xt_read.specs.Run.{Body, IsRead}
 use Rattle.xt_read.proofs.ItemLemmas.{items_of-append}
@@ -34,7 +33,7 @@ use Rattle.xt_tree.specs.declared.source.Src.{Src}
 use Rattle.xt_tree.specs.Places.{marks_in, marks_of, AreInPlace}
 use Rattle.xt_tree.proofs.Theorems.{in_place-append}
 use Rattle.xt_read.proofs.TokenSteps.{spelled_at, stands_at}
-use Rattle.xt_read.proofs.Fronts.{longest, one_declaration, IsAfter, after_none, after_declared, IsFrontBy, unmarked, marked, is_front}
+use Rattle.xt_read.proofs.Fronts.{longest, one_declaration, after_declared, marks_gap, no_mark_gap, gap_some, joins_body}
 
 -- ---- a declaration at a place
 
@@ -117,12 +116,6 @@ mark_dropped text len is = ap (λ n. drop n text) is ∙ by (starts_with nat_eq 
 span_len : (text : List ℕ) (at : ℕ) (span : Span) → IsDeclarationAt text at span → span.to ≡ at + length (at_span text span)
 span_len text at span place = omega (arith, place.from_is, place.some, place.within, length-take (span.to - span.from) (drop span.from text), length-drop span.from text)
 
-after : (form : Declaration → Bool) (body : Body) (text : List ℕ) (len : ℕ) (declared : Option Span) → MatchOption declared (NoDeclared form (drop len text)) (IsDeclaredAt form text len)
-    → (front : Items) × (n : ℕ) × IsAfter form body (drop len text) front n × (front_len len declared ≡ len + n) × (front_items text len declared ≡ (if len == 0 then front else leaf gap (at_span text (record { from = 0; to = len })) front))
-after form body text len None none = (nil, 0, after_none form body (drop len text) none, omega arith, refl)
-after form body text len (Some span) is =
-    (leaf gap (at_span text span) nil, length (at_span text span), after_declared form body (drop len text) (at_span text span) (drop span.to text) (length (at_span text span)) is.declares is.place.stands refl, span_len text len span is.place, refl)
-
 -- the body begins behind the mark and the declaration
 begins_body : (role : MarkupRole) (text : List ℕ) (len : ℕ) (declared : Option Span) → len ≡ (if starts_with nat_eq text mark then 3 else 0) → MatchOption declared (NoDeclared (form_of role) (drop len text)) (IsDeclaredAt (form_of role) text len) → BeginsBody (form_of role) text (front_len len declared)
 begins_body role text len None size none = record {
@@ -138,45 +131,62 @@ begins_body role text len (Some span) size is =
       to_is = span_len text len span is.place ∙ ap (λ k. k + length (at_span text span)) size;
     }
 
-pub front_stands : (role : MarkupRole) (text : List ℕ) (len : ℕ) (declared : Option Span) → len ≡ (if starts_with nat_eq text mark then 3 else 0) → MatchOption declared (NoDeclared (form_of role) (drop len text)) (IsDeclaredAt (form_of role) text len) → IsFront role text (front_items text len declared) (front_len len declared)
-front_stands role text len declared size found =
-    let (front, n, is, to, items) = after (form_of role) (body_for role) text len declared found in
-    is_front role text (front_items text len declared) (front_len len declared) (by front n is to items (starts_with nat_eq text mark) refl size) (begins_body role text len declared size found)
+known_there : (role : MarkupRole) (text : List ℕ) (len : ℕ) (declared : Option Span) → MatchOption declared (NoDeclared (form_of role) (drop len text)) (IsDeclaredAt (form_of role) text len) → ¬ IsForeign (form_of role) (drop len text)
+known_there role text len None none foreign = none foreign.0
+known_there role text len (Some span) is foreign =
+    (after_declared (form_of role) (body_for role) (drop len text) (at_span text span) (drop span.to text) (length (at_span text span)) is.declares is.place.stands refl).known foreign
+
+pub has_body : (role : MarkupRole) (text : List ℕ) (len : ℕ) (declared : Option Span) → len ≡ mark_len text → MatchOption declared (NoDeclared (form_of role) (drop len text)) (IsDeclaredAt (form_of role) text len) → HasBodyAt (form_of role) text (front_len len declared)
+has_body role text len declared size found = record {
+  known = subst (λ (t : List ℕ). ¬ IsForeign (form_of role) t) (mark_dropped text len size) (known_there role text len declared found);
+  begins = begins_body role text len declared size found;
+}
+
+declared_gap_is : (form : Declaration → Bool) (text : List ℕ) (len : ℕ) (declared : Option Span) → MatchOption declared (NoDeclared form (drop len text)) (IsDeclaredAt form text len) → declared_gap text declared ≡ gap_of (take (front_len len declared - len) (drop len text))
+declared_gap_is form text len None none =
+    let nothing : len - len ≡ 0 = omega arith in
+    ap (λ n. gap_of (take n (drop len text))) (sym nothing)
+declared_gap_is form text len (Some span) is =
+    let some : 0 < length (at_span text span) = omega (arith, is.place.some, span_len text len span is.place) in
+    sym (gap_some (at_span text span) some) ∙ ap (λ a. gap_of (take (span.to - a) (drop a text))) is.place.from_is
+
+mark_gap_is : (text : List ℕ) (len : ℕ) (rest : Items) → len ≡ mark_len text → mark_gap text len rest ≡ behind_mark text rest
+mark_gap_is text len rest size = ap (λ n. mark_gap text n rest) size ∙ by (starts_with nat_eq text mark) refl
   where
-    by : (front : Items) (n : ℕ) → IsAfter (form_of role) (body_for role) (drop len text) front n → front_len len declared ≡ len + n → front_items text len declared ≡ (if len == 0 then front else leaf gap (at_span text (record { from = 0; to = len })) front)
-        → (b : Bool) → starts_with nat_eq text mark ≡ b → len ≡ (if b then 3 else 0) → IsFrontBy (form_of role) (body_for role) text (front_items text len declared) (front_len len declared)
-    by front n is to items false starts l =
-        let size : front_len len declared ≡ n = omega (arith, to, l) in
-        let same : front_items text len declared ≡ front = items ∙ ap (λ k. if k == 0 then front else leaf gap (at_span text (record { from = 0; to = k })) front) l in
-        let here : IsAfter (form_of role) (body_for role) text front n = subst (λ k. IsAfter (form_of role) (body_for role) (drop k text) front n) l is in
-        subst (λ i. IsFrontBy (form_of role) (body_for role) text i (front_len len declared)) (sym same) (subst (λ k. IsFrontBy (form_of role) (body_for role) text front k) (sym size) (unmarked (form_of role) (body_for role) text front n starts here))
-    by front n is to items true starts l =
-        let size : front_len len declared ≡ 3 + n = omega (arith, to, l) in
+    by : (b : Bool) → starts_with nat_eq text mark ≡ b → mark_gap text (mark_len text) rest ≡ behind_mark text rest
+    by true starts =
+        let three : mark_len text ≡ 3 = rw starts refl in
         let marks : take 3 text ≡ mark = sym ((bytes_eq-Decides mark (take 3 text)).0 starts) in
-        let same : front_items text len declared ≡ leaf gap mark front = items ∙ ap (λ k. if k == 0 then front else leaf gap (at_span text (record { from = 0; to = k })) front) l ∙ ap (λ t. leaf gap t front) marks in
-        let here : IsAfter (form_of role) (body_for role) (drop 3 text) front n = subst (λ k. IsAfter (form_of role) (body_for role) (drop k text) front n) l is in
-        subst (λ i. IsFrontBy (form_of role) (body_for role) text i (front_len len declared)) (sym same) (marked (form_of role) (body_for role) text front n (front_len len declared) starts size here)
+        ap (λ n. mark_gap text n rest) three ∙ ap (λ t. leaf gap t rest) marks ∙ sym (marks_gap text rest starts)
+    by false none =
+        let no_bytes : mark_len text ≡ 0 = rw none refl in
+        ap (λ n. mark_gap text n rest) no_bytes ∙ sym (no_mark_gap text rest none)
+
+pub gaps_are : (role : MarkupRole) (text : List ℕ) (len : ℕ) (declared : Option Span) → len ≡ mark_len text → MatchOption declared (NoDeclared (form_of role) (drop len text)) (IsDeclaredAt (form_of role) text len) → front_items text len declared ≡ gaps_to text (front_len len declared)
+gaps_are role text len declared size found =
+    mark_gap_is text len (declared_gap text declared) size ∙ ap (behind_mark text)
+    (declared_gap_is (form_of role) text len declared found
+    ∙ ap (λ n. gap_of (take (front_len len declared - n) (drop len text))) size
+    ∙ ap (λ t. gap_of (take (front_len len declared - mark_len text) t)) (mark_dropped text len size))
 
 -- the first fault of a text, behind its front
-pub text_fault : (role : MarkupRole) (text : List ℕ) (front : Items) (to : ℕ) (fault : Unread) → IsFront role text front to → IsBodyFault (body_for role) text to fault → IsMarkupFault role text fault
-text_fault role text front to (NotWellFormed at) is fault = record { front = front; to = to; is = is; fault = fault }
-text_fault role text front to TooDeep is fault = record { front = front; to = to; is = is; fault = fault }
-text_fault role text front to NoMemory is fault = tt
-text_fault role text front to (NotUtf8 at) is fault = absurd fault.halts
-text_fault role text front to Encoding is fault = absurd fault.halts
+pub text_fault : (role : MarkupRole) (text : List ℕ) (to : ℕ) (fault : ReadingFault) → HasBodyAt (form_of role) text to → IsBodyFault (body_for role) text to fault → IsMarkupFault role text fault
+text_fault role text to (not_well_formed at) is fault = record { to = to; body = is; fault = fault }
+text_fault role text to too_deep is fault = record { to = to; body = is; fault = fault }
+text_fault role text to (not_utf8 at) is fault = absurd fault.halts
+text_fault role text to encoding is fault = absurd fault.halts
 
 -- a text in a role has no fault of its bytes
-no_utf8_fault : (role : FileRole) (text : List ℕ) (at : ℕ) → IsTextFault role text (NotUtf8 at) → ⊥
+no_utf8_fault : (role : FileRole) (text : List ℕ) (at : ℕ) → IsTextFault role text (not_utf8 at) → ⊥
 no_utf8_fault file.Document text at is = is
 no_utf8_fault file.Entity text at is = is
 no_utf8_fault file.Text text at is = is
 
-pub file_fault : (role : FileRole) (bytes text : List ℕ) (fault : Unread) → text ≡ bytes → IsUtf8 bytes → IsTextFault role text fault → IsFaultOf role bytes fault
-file_fault role bytes text (NotWellFormed at) same utf8 is = (utf8, subst (λ t. IsTextFault role t (NotWellFormed at)) same is)
-file_fault role bytes text TooDeep same utf8 is = (utf8, subst (λ t. IsTextFault role t TooDeep) same is)
-file_fault role bytes text NoMemory same utf8 is = tt
-file_fault role bytes text (NotUtf8 at) same utf8 is = absurd (no_utf8_fault role text at is)
-file_fault role bytes text Encoding same utf8 is = (utf8, subst (λ t. IsTextFault role t Encoding) same is)
+pub file_fault : (role : FileRole) (bytes text : List ℕ) (fault : ReadingFault) → text ≡ bytes → IsUtf8 bytes → IsTextFault role text fault → IsFaultOf role bytes fault
+file_fault role bytes text (not_well_formed at) same utf8 is = (utf8, subst (λ t. IsTextFault role t (not_well_formed at)) same is)
+file_fault role bytes text too_deep same utf8 is = (utf8, subst (λ t. IsTextFault role t too_deep) same is)
+file_fault role bytes text (not_utf8 at) same utf8 is = absurd (no_utf8_fault role text at is)
+file_fault role bytes text encoding same utf8 is = (utf8, subst (λ t. IsTextFault role t encoding) same is)
 
 -- ---- the whole
 
@@ -187,11 +197,11 @@ marks_append : (gaps items : List Src) → marks_of (gaps ++ items) ≡ marks_of
 marks_append [] items = refl
 marks_append (x ∷ gaps) items = ap (λ m. marks_in x ++ m) (marks_append gaps items) ∙ sym (append_assoc (marks_in x) (marks_of gaps) (marks_of items))
 
-pub joined_items : (role : MarkupRole) (body : Body) (text : List ℕ) (gaps items all : List Src) (to : ℕ) → body ≡ body_for role → IsFront role text (items_in text gaps) to → IsRead body (drop to text) (items_in text items) → all ≡ gaps ++ items → IsOrdered (markup_role_of role) (items_in text all) × (source_text (items_in text all) ≡ text)
-joined_items role body text gaps items all to same is read joined =
+pub joined_items : (role : MarkupRole) (body : Body) (text : List ℕ) (gaps items all : List Src) (to : ℕ) → body ≡ body_for role → HasBodyAt (form_of role) text to → items_in text gaps ≡ gaps_to text to → IsRead body (drop to text) (items_in text items) → all ≡ gaps ++ items → IsOrdered (markup_role_of role) (items_in text all) × (source_text (items_in text all) ≡ text)
+joined_items role body text gaps items all to same is gaps_are read joined =
     let main = read_is_body (body_for role) (drop to text) (items_in text items) (subst (λ b. IsRead b (drop to text) (items_in text items)) same read) in
-    let whole = is.opens (items_in text items) main.0 main.1 in
-    let e : items_in text all ≡ append (items_in text gaps) (items_in text items) = ap (items_in text) joined ∙ map_append text gaps items in
+    let whole = (joins_body role text to is).opens (items_in text items) main.0 main.1 in
+    let e : items_in text all ≡ append (gaps_to text to) (items_in text items) = ap (items_in text) joined ∙ map_append text gaps items ∙ ap (λ i. append i (items_in text items)) gaps_are in
     (subst (IsOrdered (markup_role_of role)) (sym e) whole.0, ap source_text e ∙ whole.1)
 
 pub joined_places : (text : List ℕ) (gaps items all : List Src) (to : ℕ) → AreInPlace text 0 (marks_of gaps) to → AreInPlace text to (marks_of items) (length text) → all ≡ gaps ++ items → AreInPlace text 0 (marks_of all) (length text)

@@ -1,5 +1,6 @@
 -- What stands in front of a body: a byte order mark and a declaration.
-use Rattle.std.proofs.Common.{◌≡◌, ◌∙◌, List, ℕ, ◌+◌, ◌++◌, length, take, drop, refl, sym, ap, subst, Bool, true, false, inl, inr, nat_eq, arith}
+use Rattle.std.proofs.Common.{◌≡◌, ◌∙◌, List, ℕ, ◌+◌, ◌-◌, ◌<◌, [], ◌∷◌, ◌++◌, length, take, drop, refl, sym, ap, subst, Bool, true, false, inl, inr, nat_eq, arith}
+use Rattle.std.proofs.lemmas.Bool.{cases_Bool}
 use Rattle.std.proofs.lemmas.List.{take_at, drop_at, drop-drop, take-append-drop}
 use Rattle.std.proofs.lemmas.Slice.Eq.{bytes_eq-Decides}
 use Rattle.std.specs.List.{starts_with}
@@ -7,10 +8,11 @@ use Rattle.xt_spec.specs.Declaration.{Declaration, IsDeclarationOf, IsDeclaratio
 use Rattle.xt_spec.specs.Token.{declaration, IsLongestFront}
 use Rattle.xt_spec.specs.Tree.{Items, nil, leaf, gap, append, source_text}
 use Rattle.xt_spec.specs.Reading.{mark, DeclaresUtf8, IsMarked, IsDeclared, document, entity, IsOrdered, IsReading}
-use Rattle.xt_lex.proofs.Theorems.{token_longest, declaration_unique}
+use Rattle.xt_lex.proofs.Theorems.{token_longest, declaration_unique, front_some}
 use Rattle.xt_read.specs.Run.{Body, document_body, content_body, IsBody, begin, piece_tok, declaration_piece, IsToken}
-use Rattle.xt_spec.specs.Front.{NoDeclared, IsForeign, after_mark, mark_len, TakesDeclared, BeginsBody}
-use Rattle.xt_read.specs.Front.{markup_role_of, form_of, body_for, IsFront}
+use Rattle.xt_spec.specs.Front.{StandsDeclared, NoDeclared, IsForeign, after_mark, mark_len, TakesDeclared, BeginsBody}
+use Rattle.xt_spec.specs.FirstFault.{HasBodyAt}
+use Rattle.xt_read.specs.Front.{markup_role_of, form_of, body_for, gap_of, behind_mark, gaps_to}
 use Rattle.xt_read.specs.declared.front.MarkupRole.{MarkupRole}
 use Rattle.xt_read.specs.declared.front.MarkupRole.TheVariants as role
 use Rattle.xt_read.proofs.Runs.{one_list, no_step}
@@ -48,7 +50,7 @@ pub record IsAfter (form : Declaration → Bool) (body : Body) (text : List ℕ)
   pub only : (items : Items) → IsDeclared form (IsBody body) items → source_text items ≡ text → (list : Items) × (items ≡ append front list) × IsBody body list × (source_text list ≡ drop len text)
   pub known : ¬ IsForeign form text
 
-pub after_none : (form : Declaration → Bool) (body : Body) (text : List ℕ) → NoDeclared form text → IsAfter form body text nil 0
+after_none : (form : Declaration → Bool) (body : Body) (text : List ℕ) → NoDeclared form text → IsAfter form body text nil 0
 after_none form body text none = record {
   opens = λ list is joined. (inr is, joined);
   only = only;
@@ -91,37 +93,34 @@ starts_mark rest = refl
 pub begins_mark : (text : List ℕ) → starts_with nat_eq text mark ≡ true → text ≡ mark ++ drop 3 text
 begins_mark text is = sym (take-append-drop 3 text) ∙ ap (λ t. t ++ drop 3 text) (sym ((bytes_eq-Decides mark (take 3 text)).0 is))
 
+pub marks_gap : (text : List ℕ) (front : Items) → starts_with nat_eq text mark ≡ true → behind_mark text front ≡ leaf gap mark front
+marks_gap text front starts = rw starts refl
+
+pub no_mark_gap : (text : List ℕ) (front : Items) → starts_with nat_eq text mark ≡ false → behind_mark text front ≡ front
+no_mark_gap text front none = rw none refl
+
 -- what stands in front of a file, in a form
-pub record IsFrontBy (form : Declaration → Bool) (body : Body) (text : List ℕ) (front : Items) (to : ℕ) : Type 0 where
+record IsFrontBy (form : Declaration → Bool) (body : Body) (text : List ℕ) (front : Items) (to : ℕ) : Type 0 where
   pub opens : (list : Items) → IsBody body list → source_text list ≡ drop to text → IsMarked (IsDeclared form (IsBody body)) (append front list) × (source_text (append front list) ≡ text)
   pub only : (items : Items) → IsMarked (IsDeclared form (IsBody body)) items → source_text items ≡ text → (list : Items) × (items ≡ append front list) × IsBody body list × (source_text list ≡ drop to text)
-  pub known : ¬ IsForeign form (after_mark text)
 
-pub unmarked : (form : Declaration → Bool) (body : Body) (text : List ℕ) (front : Items) (to : ℕ) → starts_with nat_eq text mark ≡ false → IsAfter form body text front to → IsFrontBy form body text front to
+unmarked : (form : Declaration → Bool) (body : Body) (text : List ℕ) (front : Items) (to : ℕ) → starts_with nat_eq text mark ≡ false → IsAfter form body text front to → IsFrontBy form body text front to
 unmarked form body text front to none after = record {
   opens = λ list is joined. let both = after.opens list is joined in (inr (ap (λ t. starts_with nat_eq t mark) both.1 ∙ none, both.0), both.1);
   only = only;
-  known = λ foreign. after.known (subst (IsForeign form) plain foreign);
 }
   where
-    plain : after_mark text ≡ text
-    plain = rw none refl
-
     only : (items : Items) → IsMarked (IsDeclared form (IsBody body)) items → source_text items ≡ text → (list : Items) × (items ≡ append front list) × IsBody body list × (source_text list ≡ drop to text)
     only items (inl (rest, is, main)) joined =
         let h : true ≡ false = sym (starts_mark (source_text rest)) ∙ ap (λ t. starts_with nat_eq t mark) (sym (ap source_text is) ∙ joined) ∙ none in absurd (cc)
     only items (inr (starts, main)) joined = after.only items main joined
 
-pub marked : (form : Declaration → Bool) (body : Body) (text : List ℕ) (front : Items) (len to : ℕ) → starts_with nat_eq text mark ≡ true → to ≡ 3 + len → IsAfter form body (drop 3 text) front len → IsFrontBy form body text (leaf gap mark front) to
+marked : (form : Declaration → Bool) (body : Body) (text : List ℕ) (front : Items) (len to : ℕ) → starts_with nat_eq text mark ≡ true → to ≡ 3 + len → IsAfter form body (drop 3 text) front len → IsFrontBy form body text (leaf gap mark front) to
 marked form body text front len to some size after = record {
   opens = λ list is joined. let both = after.opens list is (joined ∙ behind) in (inl (append front list, refl, both.0), ap (λ t. mark ++ t) both.1 ∙ sym (begins_mark text some));
   only = only;
-  known = λ foreign. after.known (subst (IsForeign form) plain foreign);
 }
   where
-    plain : after_mark text ≡ drop 3 text
-    plain = rw some refl
-
     behind : drop to text ≡ drop len (drop 3 text)
     behind = ap (λ n. drop n text) size ∙ sym (drop-drop len 3 text)
 
@@ -132,9 +131,67 @@ marked form body text front len to some size after = record {
     only items (inr (starts, main)) joined =
         let h : false ≡ true = sym starts ∙ ap (λ t. starts_with nat_eq t mark) joined ∙ some in absurd (cc)
 
-pub is_front : (role : MarkupRole) (text : List ℕ) (front : Items) (to : ℕ) → IsFrontBy (form_of role) (body_for role) text front to → BeginsBody (form_of role) text to → IsFront role text front to
-is_front role.Document text front to is begins = record { opens = is.opens; only = is.only; known = is.known; begins = begins }
-is_front role.Entity text front to is begins = record { opens = is.opens; only = is.only; known = is.known; begins = begins }
+declares_utf8 : (form : Declaration → Bool) (text : List ℕ) (d : StandsDeclared form text) → ¬ IsForeign form text → is_utf8_or_absent d.declares.encoding ≡ true
+declares_utf8 form text d known = elim (cases_Bool (is_utf8_or_absent d.declares.encoding)) [
+  | inl is ↦ is
+  | inr foreign ↦ absurd (known (d, foreign))
+]
+
+pub gap_some : (text : List ℕ) → 0 < length text → gap_of text ≡ leaf gap text nil
+gap_some [] some = absurd (omega (arith, some))
+gap_some (b ∷ text) some = refl
+
+-- the gap of a declaration stands in front of what is behind it
+after_of : (form : Declaration → Bool) (body : Body) (text : List ℕ) (len : ℕ) → TakesDeclared form text len → ¬ IsForeign form text → IsAfter form body text (gap_of (take len text)) len
+after_of form body text len (inl (d, size)) known =
+    let there : take len text ≡ d.spelled = ap (λ n. take n text) size ∙ ap (take (length d.spelled)) d.stands ∙ take_at d.spelled d.rest (length d.spelled) refl in
+    let some : 0 < length d.spelled = front_some (d.spelled ++ d.rest) declaration (length d.spelled) (longest d.spelled d.rest (d.declares, d.is)).front in
+    subst (λ (front : Items). IsAfter form body text front len) (sym (ap gap_of there ∙ gap_some d.spelled some))
+    (after_declared form body text d.spelled d.rest len (d.declares, d.is, d.has_form, declares_utf8 form text d known) d.stands size)
+after_of form body text len (inr (none, no_bytes)) known =
+    subst (λ (n : ℕ). IsAfter form body text (gap_of (take n text)) n) (sym no_bytes) (after_none form body text none)
+
+gaps_by : (form : Declaration → Bool) (body : Body) (text : List ℕ) (to : ℕ) → HasBodyAt form text to → IsFrontBy form body text (gaps_to text to) to
+gaps_by form body text to has = by (starts_with nat_eq text mark) refl
+  where
+    len : ℕ
+    len = has.begins.len
+
+    taken : to - mark_len text ≡ len
+    taken = omega (arith, has.begins.to_is)
+
+    gaps : gap_of (take len (after_mark text)) ≡ gap_of (take (to - mark_len text) (after_mark text))
+    gaps = ap (λ n. gap_of (take n (after_mark text))) (sym taken)
+
+    after : IsAfter form body (after_mark text) (gap_of (take (to - mark_len text) (after_mark text))) len
+    after = subst (λ (front : Items). IsAfter form body (after_mark text) front len) gaps (after_of form body (after_mark text) len has.begins.takes has.known)
+
+    by : (b : Bool) → starts_with nat_eq text mark ≡ b → IsFrontBy form body text (gaps_to text to) to
+    by true starts =
+        let front = gap_of (take (to - mark_len text) (after_mark text)) in
+        let three : mark_len text ≡ 3 = rw starts refl in
+        let plain : after_mark text ≡ drop 3 text = rw starts refl in
+        let is : behind_mark text front ≡ leaf gap mark front = marks_gap text front starts in
+        let size : to ≡ 3 + len = omega (arith, has.begins.to_is, three) in
+        subst (λ (i : Items). IsFrontBy form body text i to) (sym is)
+        (marked form body text front len to starts size (subst (λ (t : List ℕ). IsAfter form body t front len) plain after))
+    by false none =
+        let front = gap_of (take (to - mark_len text) (after_mark text)) in
+        let zero_long : mark_len text ≡ 0 = rw none refl in
+        let plain : after_mark text ≡ text = rw none refl in
+        let is : behind_mark text front ≡ front = no_mark_gap text front none in
+        let size : len ≡ to = omega (arith, has.begins.to_is, zero_long) in
+        subst (λ (i : Items). IsFrontBy form body text i to) (sym is)
+        (unmarked form body text front to none (subst (IsAfter form body text front) size (subst (λ (t : List ℕ). IsAfter form body t front len) plain after)))
+
+-- behind the gaps in front a text is read as its body is, and in no other way
+pub record JoinsBody (role : MarkupRole) (text : List ℕ) (front : Items) (to : ℕ) : Type 0 where
+  pub opens : (list : Items) → IsBody (body_for role) list → source_text list ≡ drop to text → IsOrdered (markup_role_of role) (append front list) × (source_text (append front list) ≡ text)
+  pub only : (items : Items) → IsOrdered (markup_role_of role) items → source_text items ≡ text → (list : Items) × (items ≡ append front list) × IsBody (body_for role) list × (source_text list ≡ drop to text)
+
+pub joins_body : (role : MarkupRole) (text : List ℕ) (to : ℕ) → HasBodyAt (form_of role) text to → JoinsBody role text (gaps_to text to) to
+joins_body role.Document text to has = let is = gaps_by is_xml_declaration document_body text to has in record { opens = is.opens; only = is.only }
+joins_body role.Entity text to has = let is = gaps_by is_text_declaration content_body text to has in record { opens = is.opens; only = is.only }
 
 -- a text with items declares no other encoding
 no_foreign_declared : (form : Declaration → Bool) (body : Body) (items : Items) → IsDeclared form (IsBody body) items → IsForeign form (source_text items) → ⊥

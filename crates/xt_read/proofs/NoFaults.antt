@@ -5,51 +5,47 @@ use Rattle.std.proofs.lemmas.Str.{utf8_valid_len-IsValidUpTo}
 use Rattle.xt_spec.specs.Tree.{Items, source_text}
 use Rattle.xt_spec.specs.Reading.{plain_text, IsReading, IsOrdered}
 use Rattle.xt_read.specs.Front.{body_for, role_of, markup_role_of}
-use Rattle.xt_read.specs.Run.{Body, Tok, tok_text, IsToken, State, begin, is_too_deep, step}
-use Rattle.xt_read.specs.Faults.{Passes, here, past, IsTooDeep, IsHalt, IsHaltAt, IsBodyFault, IsBehindFront, IsMarkupFault, IsPlainFault, IsTextFault, IsFaultOf}
+use Rattle.xt_read.specs.Run.{Body, Tok, tok_text, IsToken, State, begin, is_too_deep, step, Passes, here, past}
+use Rattle.xt_read.specs.Faults.{IsTooDeep, IsHalt, IsHaltAt, IsBodyFault, IsBehindFront, IsMarkupFault, IsPlainFault, IsTextFault, IsFaultOf}
 use Rattle.xt_read.specs.declared.front.FileRole.{FileRole}
 use Rattle.xt_read.specs.declared.front.FileRole.TheVariants as file
 use Rattle.xt_read.specs.declared.front.MarkupRole.{MarkupRole}
 use Rattle.xt_read.specs.declared.front.MarkupRole.TheVariants as markup
-use Rattle.xt_read.specs.declared.unread.Unread.{Unread}
-use Rattle.xt_read.specs.declared.unread.Unread.TheVariants.{NotUtf8, Encoding, NotWellFormed, TooDeep, NoMemory}
+use Rattle.xt_spec.specs.FirstFault.{ReadingFault, not_utf8, encoding, not_well_formed, too_deep}
 use Rattle.xt_read.proofs.Complete.{body_is_read}
-use Rattle.xt_read.proofs.Fronts.{no_foreign, one_begin}
+use Rattle.xt_read.proofs.Fronts.{no_foreign, one_begin, joins_body}
 use Rattle.xt_read.proofs.PlainTexts.{no_first_no_char, one_first_no_char}
 use Rattle.xt_read.proofs.Runs.{no_items, some_same, no_token_of_nil, too_deep_none}
 use Rattle.xt_read.proofs.Tokens.{token_unique}
 
 -- a text with items has no fault behind its front
-none_behind : (r : MarkupRole) (text : List ℕ) (items : Items) (fault : Unread) → IsOrdered (markup_role_of r) items → source_text items ≡ text → IsBehindFront r text fault → (fault ≡ NoMemory → ⊥) → ⊥
-none_behind r text items fault ordered joined is some =
-    let (list, same, main, rest) = is.is.only items ordered joined in
-    no_items (body_for r) text is.to fault list is.fault some (body_is_read (body_for r) (drop is.to text) list main rest)
+none_behind : (r : MarkupRole) (text : List ℕ) (items : Items) (fault : ReadingFault) → IsOrdered (markup_role_of r) items → source_text items ≡ text → IsBehindFront r text fault → ⊥
+none_behind r text items fault ordered joined is =
+    let (list, same, main, rest) = (joins_body r text is.to is.body).only items ordered joined in
+    no_items (body_for r) text is.to fault list is.fault (body_is_read (body_for r) (drop is.to text) list main rest)
 
-no_markup_fault : (r : MarkupRole) (text : List ℕ) (items : Items) (fault : Unread) → IsOrdered (markup_role_of r) items → source_text items ≡ text → IsMarkupFault r text fault → fault ≡ NoMemory
-no_markup_fault r text items (NotUtf8 at) ordered joined fault = absurd fault
-no_markup_fault r text items Encoding ordered joined fault = absurd (no_foreign r text items ordered joined fault)
-no_markup_fault r text items (NotWellFormed at) ordered joined fault = absurd (none_behind r text items (NotWellFormed at) ordered joined fault (λ e. cc))
-no_markup_fault r text items TooDeep ordered joined fault = absurd (none_behind r text items TooDeep ordered joined fault (λ e. cc))
-no_markup_fault r text items NoMemory ordered joined fault = refl
+no_markup_fault : (r : MarkupRole) (text : List ℕ) (items : Items) (fault : ReadingFault) → IsOrdered (markup_role_of r) items → source_text items ≡ text → IsMarkupFault r text fault → ⊥
+no_markup_fault r text items (not_utf8 at) ordered joined fault = absurd fault
+no_markup_fault r text items encoding ordered joined fault = absurd (no_foreign r text items ordered joined fault)
+no_markup_fault r text items (not_well_formed at) ordered joined fault = absurd (none_behind r text items (not_well_formed at) ordered joined fault)
+no_markup_fault r text items too_deep ordered joined fault = absurd (none_behind r text items too_deep ordered joined fault)
 
-no_plain_fault : (text : List ℕ) (items : Items) (fault : Unread) → IsOrdered plain_text items → source_text items ≡ text → IsPlainFault text fault → fault ≡ NoMemory
-no_plain_fault text items (NotUtf8 at) ordered joined fault = absurd fault
-no_plain_fault text items Encoding ordered joined fault = absurd fault
-no_plain_fault text items (NotWellFormed at) ordered joined fault = absurd (no_first_no_char text items at ordered joined fault)
-no_plain_fault text items TooDeep ordered joined fault = absurd fault
-no_plain_fault text items NoMemory ordered joined fault = refl
+no_plain_fault : (text : List ℕ) (items : Items) (fault : ReadingFault) → IsOrdered plain_text items → source_text items ≡ text → IsPlainFault text fault → ⊥
+no_plain_fault text items (not_utf8 at) ordered joined fault = absurd fault
+no_plain_fault text items encoding ordered joined fault = absurd fault
+no_plain_fault text items (not_well_formed at) ordered joined fault = absurd (no_first_no_char text items at ordered joined fault)
+no_plain_fault text items too_deep ordered joined fault = absurd fault
 
-no_text_fault : (r : FileRole) (text : List ℕ) (items : Items) (fault : Unread) → IsOrdered (role_of r) items → source_text items ≡ text → IsTextFault r text fault → fault ≡ NoMemory
+no_text_fault : (r : FileRole) (text : List ℕ) (items : Items) (fault : ReadingFault) → IsOrdered (role_of r) items → source_text items ≡ text → IsTextFault r text fault → ⊥
 no_text_fault file.Document text items fault ordered joined is = no_markup_fault markup.Document text items fault ordered joined is
 no_text_fault file.Entity text items fault ordered joined is = no_markup_fault markup.Entity text items fault ordered joined is
 no_text_fault file.Text text items fault ordered joined is = no_plain_fault text items fault ordered joined is
 
-pub no_fault : (r : FileRole) (bytes : List ℕ) (items : Items) (fault : Unread) → IsReading (role_of r) bytes items → IsFaultOf r bytes fault → fault ≡ NoMemory
-no_fault r bytes items (NotUtf8 at) is fault = absurd (fault.0 is.utf8)
-no_fault r bytes items Encoding is fault = no_text_fault r bytes items Encoding is.ordered is.joined fault.1
-no_fault r bytes items (NotWellFormed at) is fault = no_text_fault r bytes items (NotWellFormed at) is.ordered is.joined fault.1
-no_fault r bytes items TooDeep is fault = no_text_fault r bytes items TooDeep is.ordered is.joined fault.1
-no_fault r bytes items NoMemory is fault = refl
+pub no_fault : (r : FileRole) (bytes : List ℕ) (items : Items) (fault : ReadingFault) → IsReading (role_of r) bytes items → IsFaultOf r bytes fault → ⊥
+no_fault r bytes items (not_utf8 at) is fault = absurd (fault.0 is.utf8)
+no_fault r bytes items encoding is fault = no_text_fault r bytes items encoding is.ordered is.joined fault.1
+no_fault r bytes items (not_well_formed at) is fault = no_text_fault r bytes items (not_well_formed at) is.ordered is.joined fault.1
+no_fault r bytes items too_deep is fault = no_text_fault r bytes items too_deep is.ordered is.joined fault.1
 
 -- ---- one fault
 
@@ -67,12 +63,11 @@ halt_stops s text (inl (some, none)) t tok is steps = none is.kind (length (tok_
 halt_stops s text (inr (inl misplaced)) t tok is steps = misplaced_stops s text misplaced.tok misplaced.is misplaced.none t tok is steps
 halt_stops s text (inr (inr (end, never))) t tok is steps = no_token_of_nil tok (subst (λ (x : List ℕ). IsToken tok x) end is)
 
-fault_stops : (text : List ℕ) (at : ℕ) (s : State) (fault : Unread) → IsHaltAt text at s fault → (fault ≡ NoMemory → ⊥) → Stops s (drop at text)
-fault_stops text at s (NotWellFormed place) is some = halt_stops s (drop at text) is.1
-fault_stops text at s TooDeep is some = misplaced_stops s (drop at text) is.tok is.is (too_deep_none s is.tok is.level)
-fault_stops text at s NoMemory is some = absurd (some refl)
-fault_stops text at s (NotUtf8 place) is some = absurd is
-fault_stops text at s Encoding is some = absurd is
+fault_stops : (text : List ℕ) (at : ℕ) (s : State) (fault : ReadingFault) → IsHaltAt text at s fault → Stops s (drop at text)
+fault_stops text at s (not_well_formed place) is = halt_stops s (drop at text) is.1
+fault_stops text at s too_deep is = misplaced_stops s (drop at text) is.tok is.is (too_deep_none s is.tok is.level)
+fault_stops text at s (not_utf8 place) is = absurd is
+fault_stops text at s encoding is = absurd is
 
 -- a text is read to one place where it is read no further
 one_stop : (s u v : State) (text rest more : List ℕ) → Passes s text u rest → Passes s text v more → Stops u rest → Stops v more → (u ≡ v) × (rest ≡ more)
@@ -96,89 +91,75 @@ not_too_deep s text (inr (inl is)) deep =
 not_too_deep s text (inr (inr (end, never))) deep = no_token_of_nil deep.tok (subst (λ (x : List ℕ). IsToken deep.tok x) end deep.is)
 
 -- two faults of one place are one
-one_at : (text : List ℕ) (at : ℕ) (s : State) (a b : Unread) → IsHaltAt text at s a → IsHaltAt text at s b → (a ≡ NoMemory → ⊥) → (b ≡ NoMemory → ⊥) → a ≡ b
-one_at text at s (NotWellFormed m) (NotWellFormed n) x y some more = ap NotWellFormed (x.0 ∙ sym y.0)
-one_at text at s (NotWellFormed m) TooDeep x y some more = absurd (not_too_deep s (drop at text) x.1 y)
-one_at text at s TooDeep (NotWellFormed n) x y some more = absurd (not_too_deep s (drop at text) y.1 x)
-one_at text at s TooDeep TooDeep x y some more = refl
-one_at text at s NoMemory b x y some more = absurd (some refl)
-one_at text at s (NotUtf8 m) b x y some more = absurd x
-one_at text at s Encoding b x y some more = absurd x
-one_at text at s (NotWellFormed m) NoMemory x y some more = absurd (more refl)
-one_at text at s (NotWellFormed m) (NotUtf8 n) x y some more = absurd y
-one_at text at s (NotWellFormed m) Encoding x y some more = absurd y
-one_at text at s TooDeep NoMemory x y some more = absurd (more refl)
-one_at text at s TooDeep (NotUtf8 n) x y some more = absurd y
-one_at text at s TooDeep Encoding x y some more = absurd y
+one_at : (text : List ℕ) (at : ℕ) (s : State) (a b : ReadingFault) → IsHaltAt text at s a → IsHaltAt text at s b → a ≡ b
+one_at text at s (not_well_formed m) (not_well_formed n) x y = ap not_well_formed (x.0 ∙ sym y.0)
+one_at text at s (not_well_formed m) too_deep x y = absurd (not_too_deep s (drop at text) x.1 y)
+one_at text at s too_deep (not_well_formed n) x y = absurd (not_too_deep s (drop at text) y.1 x)
+one_at text at s too_deep too_deep x y = refl
+one_at text at s (not_utf8 m) b x y = absurd x
+one_at text at s encoding b x y = absurd x
+one_at text at s (not_well_formed m) (not_utf8 n) x y = absurd y
+one_at text at s (not_well_formed m) encoding x y = absurd y
+one_at text at s too_deep (not_utf8 n) x y = absurd y
+one_at text at s too_deep encoding x y = absurd y
 
 one_place : (text : List ℕ) (m n : ℕ) → m ≤ length text → n ≤ length text → drop m text ≡ drop n text → m ≡ n
 one_place text m n first second same = omega (arith, first, second, sym (length-drop m text) ∙ ap length same ∙ length-drop n text)
 
-pub one_body_fault : (body : Body) (text : List ℕ) (from : ℕ) (a b : Unread) → IsBodyFault body text from a → IsBodyFault body text from b → (a ≡ NoMemory → ⊥) → (b ≡ NoMemory → ⊥) → a ≡ b
-one_body_fault body text from a b x y some more =
-    let stop = one_stop (begin body) x.state y.state (drop from text) (drop x.at text) (drop y.at text) x.passes y.passes (fault_stops text x.at x.state a x.halts some) (fault_stops text y.at y.state b y.halts more) in
+pub one_body_fault : (body : Body) (text : List ℕ) (from : ℕ) (a b : ReadingFault) → IsBodyFault body text from a → IsBodyFault body text from b → a ≡ b
+one_body_fault body text from a b x y =
+    let stop = one_stop (begin body) x.state y.state (drop from text) (drop x.at text) (drop y.at text) x.passes y.passes (fault_stops text x.at x.state a x.halts) (fault_stops text y.at y.state b y.halts) in
     let at : x.at ≡ y.at = one_place text x.at y.at x.within y.within stop.1 in
-    one_at text y.at y.state a b (subst (λ (n : ℕ). IsHaltAt text n y.state a) at (subst (λ (s : State). IsHaltAt text x.at s a) stop.0 x.halts)) y.halts some more
+    one_at text y.at y.state a b (subst (λ (n : ℕ). IsHaltAt text n y.state a) at (subst (λ (s : State). IsHaltAt text x.at s a) stop.0 x.halts)) y.halts
 
-one_behind : (r : MarkupRole) (text : List ℕ) (a b : Unread) → IsBehindFront r text a → IsBehindFront r text b → (a ≡ NoMemory → ⊥) → (b ≡ NoMemory → ⊥) → a ≡ b
-one_behind r text a b x y some more =
-    let to : x.to ≡ y.to = one_begin r text x.to y.to x.is.begins y.is.begins in
-    one_body_fault (body_for r) text y.to a b (subst (λ (n : ℕ). IsBodyFault (body_for r) text n a) to x.fault) y.fault some more
+one_behind : (r : MarkupRole) (text : List ℕ) (a b : ReadingFault) → IsBehindFront r text a → IsBehindFront r text b → a ≡ b
+one_behind r text a b x y =
+    let to : x.to ≡ y.to = one_begin r text x.to y.to x.body.begins y.body.begins in
+    one_body_fault (body_for r) text y.to a b (subst (λ (n : ℕ). IsBodyFault (body_for r) text n a) to x.fault) y.fault
 
-one_markup_fault : (r : MarkupRole) (text : List ℕ) (a b : Unread) → IsMarkupFault r text a → IsMarkupFault r text b → (a ≡ NoMemory → ⊥) → (b ≡ NoMemory → ⊥) → a ≡ b
-one_markup_fault r text (NotUtf8 m) b x y some more = absurd x
-one_markup_fault r text NoMemory b x y some more = absurd (some refl)
-one_markup_fault r text Encoding (NotUtf8 n) x y some more = absurd y
-one_markup_fault r text Encoding Encoding x y some more = refl
-one_markup_fault r text Encoding (NotWellFormed n) x y some more = absurd (y.is.known x)
-one_markup_fault r text Encoding TooDeep x y some more = absurd (y.is.known x)
-one_markup_fault r text Encoding NoMemory x y some more = absurd (more refl)
-one_markup_fault r text (NotWellFormed m) (NotUtf8 n) x y some more = absurd y
-one_markup_fault r text (NotWellFormed m) Encoding x y some more = absurd (x.is.known y)
-one_markup_fault r text (NotWellFormed m) (NotWellFormed n) x y some more = one_behind r text (NotWellFormed m) (NotWellFormed n) x y some more
-one_markup_fault r text (NotWellFormed m) TooDeep x y some more = one_behind r text (NotWellFormed m) TooDeep x y some more
-one_markup_fault r text (NotWellFormed m) NoMemory x y some more = absurd (more refl)
-one_markup_fault r text TooDeep (NotUtf8 n) x y some more = absurd y
-one_markup_fault r text TooDeep Encoding x y some more = absurd (x.is.known y)
-one_markup_fault r text TooDeep (NotWellFormed n) x y some more = one_behind r text TooDeep (NotWellFormed n) x y some more
-one_markup_fault r text TooDeep TooDeep x y some more = refl
-one_markup_fault r text TooDeep NoMemory x y some more = absurd (more refl)
+one_markup_fault : (r : MarkupRole) (text : List ℕ) (a b : ReadingFault) → IsMarkupFault r text a → IsMarkupFault r text b → a ≡ b
+one_markup_fault r text (not_utf8 m) b x y = absurd x
+one_markup_fault r text encoding (not_utf8 n) x y = absurd y
+one_markup_fault r text encoding encoding x y = refl
+one_markup_fault r text encoding (not_well_formed n) x y = absurd (y.body.known x)
+one_markup_fault r text encoding too_deep x y = absurd (y.body.known x)
+one_markup_fault r text (not_well_formed m) (not_utf8 n) x y = absurd y
+one_markup_fault r text (not_well_formed m) encoding x y = absurd (x.body.known y)
+one_markup_fault r text (not_well_formed m) (not_well_formed n) x y = one_behind r text (not_well_formed m) (not_well_formed n) x y
+one_markup_fault r text (not_well_formed m) too_deep x y = one_behind r text (not_well_formed m) too_deep x y
+one_markup_fault r text too_deep (not_utf8 n) x y = absurd y
+one_markup_fault r text too_deep encoding x y = absurd (x.body.known y)
+one_markup_fault r text too_deep (not_well_formed n) x y = one_behind r text too_deep (not_well_formed n) x y
+one_markup_fault r text too_deep too_deep x y = refl
 
-one_plain_fault : (text : List ℕ) (a b : Unread) → IsPlainFault text a → IsPlainFault text b → (a ≡ NoMemory → ⊥) → (b ≡ NoMemory → ⊥) → a ≡ b
-one_plain_fault text (NotUtf8 m) b x y some more = absurd x
-one_plain_fault text Encoding b x y some more = absurd x
-one_plain_fault text TooDeep b x y some more = absurd x
-one_plain_fault text NoMemory b x y some more = absurd (some refl)
-one_plain_fault text (NotWellFormed m) (NotUtf8 n) x y some more = absurd y
-one_plain_fault text (NotWellFormed m) Encoding x y some more = absurd y
-one_plain_fault text (NotWellFormed m) (NotWellFormed n) x y some more = ap NotWellFormed (one_first_no_char text m n x y)
-one_plain_fault text (NotWellFormed m) TooDeep x y some more = absurd y
-one_plain_fault text (NotWellFormed m) NoMemory x y some more = absurd (more refl)
+one_plain_fault : (text : List ℕ) (a b : ReadingFault) → IsPlainFault text a → IsPlainFault text b → a ≡ b
+one_plain_fault text (not_utf8 m) b x y = absurd x
+one_plain_fault text encoding b x y = absurd x
+one_plain_fault text too_deep b x y = absurd x
+one_plain_fault text (not_well_formed m) (not_utf8 n) x y = absurd y
+one_plain_fault text (not_well_formed m) encoding x y = absurd y
+one_plain_fault text (not_well_formed m) (not_well_formed n) x y = ap not_well_formed (one_first_no_char text m n x y)
+one_plain_fault text (not_well_formed m) too_deep x y = absurd y
 
-one_text_fault : (r : FileRole) (text : List ℕ) (a b : Unread) → IsTextFault r text a → IsTextFault r text b → (a ≡ NoMemory → ⊥) → (b ≡ NoMemory → ⊥) → a ≡ b
-one_text_fault file.Document text a b x y some more = one_markup_fault markup.Document text a b x y some more
-one_text_fault file.Entity text a b x y some more = one_markup_fault markup.Entity text a b x y some more
-one_text_fault file.Text text a b x y some more = one_plain_fault text a b x y some more
+one_text_fault : (r : FileRole) (text : List ℕ) (a b : ReadingFault) → IsTextFault r text a → IsTextFault r text b → a ≡ b
+one_text_fault file.Document text a b x y = one_markup_fault markup.Document text a b x y
+one_text_fault file.Entity text a b x y = one_markup_fault markup.Entity text a b x y
+one_text_fault file.Text text a b x y = one_plain_fault text a b x y
 
-pub one_fault : (r : FileRole) (bytes : List ℕ) (a b : Unread) → IsFaultOf r bytes a → IsFaultOf r bytes b → (a ≡ NoMemory → ⊥) → (b ≡ NoMemory → ⊥) → a ≡ b
-one_fault r bytes (NotUtf8 m) (NotUtf8 n) x y some more = ap NotUtf8 (sym (utf8_valid_len-IsValidUpTo bytes m x.1) ∙ utf8_valid_len-IsValidUpTo bytes n y.1)
-one_fault r bytes (NotUtf8 m) Encoding x y some more = absurd (x.0 y.0)
-one_fault r bytes (NotUtf8 m) (NotWellFormed n) x y some more = absurd (x.0 y.0)
-one_fault r bytes (NotUtf8 m) TooDeep x y some more = absurd (x.0 y.0)
-one_fault r bytes (NotUtf8 m) NoMemory x y some more = absurd (more refl)
-one_fault r bytes Encoding (NotUtf8 n) x y some more = absurd (y.0 x.0)
-one_fault r bytes Encoding Encoding x y some more = one_text_fault r bytes Encoding Encoding x.1 y.1 some more
-one_fault r bytes Encoding (NotWellFormed n) x y some more = one_text_fault r bytes Encoding (NotWellFormed n) x.1 y.1 some more
-one_fault r bytes Encoding TooDeep x y some more = one_text_fault r bytes Encoding TooDeep x.1 y.1 some more
-one_fault r bytes Encoding NoMemory x y some more = absurd (more refl)
-one_fault r bytes (NotWellFormed m) (NotUtf8 n) x y some more = absurd (y.0 x.0)
-one_fault r bytes (NotWellFormed m) Encoding x y some more = one_text_fault r bytes (NotWellFormed m) Encoding x.1 y.1 some more
-one_fault r bytes (NotWellFormed m) (NotWellFormed n) x y some more = one_text_fault r bytes (NotWellFormed m) (NotWellFormed n) x.1 y.1 some more
-one_fault r bytes (NotWellFormed m) TooDeep x y some more = one_text_fault r bytes (NotWellFormed m) TooDeep x.1 y.1 some more
-one_fault r bytes (NotWellFormed m) NoMemory x y some more = absurd (more refl)
-one_fault r bytes TooDeep (NotUtf8 n) x y some more = absurd (y.0 x.0)
-one_fault r bytes TooDeep Encoding x y some more = one_text_fault r bytes TooDeep Encoding x.1 y.1 some more
-one_fault r bytes TooDeep (NotWellFormed n) x y some more = one_text_fault r bytes TooDeep (NotWellFormed n) x.1 y.1 some more
-one_fault r bytes TooDeep TooDeep x y some more = one_text_fault r bytes TooDeep TooDeep x.1 y.1 some more
-one_fault r bytes TooDeep NoMemory x y some more = absurd (more refl)
-one_fault r bytes NoMemory b x y some more = absurd (some refl)
+pub one_fault : (r : FileRole) (bytes : List ℕ) (a b : ReadingFault) → IsFaultOf r bytes a → IsFaultOf r bytes b → a ≡ b
+one_fault r bytes (not_utf8 m) (not_utf8 n) x y = ap not_utf8 (sym (utf8_valid_len-IsValidUpTo bytes m x.1) ∙ utf8_valid_len-IsValidUpTo bytes n y.1)
+one_fault r bytes (not_utf8 m) encoding x y = absurd (x.0 y.0)
+one_fault r bytes (not_utf8 m) (not_well_formed n) x y = absurd (x.0 y.0)
+one_fault r bytes (not_utf8 m) too_deep x y = absurd (x.0 y.0)
+one_fault r bytes encoding (not_utf8 n) x y = absurd (y.0 x.0)
+one_fault r bytes encoding encoding x y = one_text_fault r bytes encoding encoding x.1 y.1
+one_fault r bytes encoding (not_well_formed n) x y = one_text_fault r bytes encoding (not_well_formed n) x.1 y.1
+one_fault r bytes encoding too_deep x y = one_text_fault r bytes encoding too_deep x.1 y.1
+one_fault r bytes (not_well_formed m) (not_utf8 n) x y = absurd (y.0 x.0)
+one_fault r bytes (not_well_formed m) encoding x y = one_text_fault r bytes (not_well_formed m) encoding x.1 y.1
+one_fault r bytes (not_well_formed m) (not_well_formed n) x y = one_text_fault r bytes (not_well_formed m) (not_well_formed n) x.1 y.1
+one_fault r bytes (not_well_formed m) too_deep x y = one_text_fault r bytes (not_well_formed m) too_deep x.1 y.1
+one_fault r bytes too_deep (not_utf8 n) x y = absurd (y.0 x.0)
+one_fault r bytes too_deep encoding x y = one_text_fault r bytes too_deep encoding x.1 y.1
+one_fault r bytes too_deep (not_well_formed n) x y = one_text_fault r bytes too_deep (not_well_formed n) x.1 y.1
+one_fault r bytes too_deep too_deep x y = one_text_fault r bytes too_deep too_deep x.1 y.1

@@ -8,8 +8,7 @@ use Rattle.xt_lex.proofs.Theorems.{kinds, not_data, markup_begins, plain_bytes}
 use Rattle.xt_spec.specs.Char.{is_space}
 use Rattle.xt_spec.specs.Token.{TokenKind, char_data, Spells}
 use Rattle.xt_spec.specs.Tree.{Items, leaf_item, gap, source_text}
-use Rattle.xt_read.specs.Faults.{Passes}
-use Rattle.xt_read.specs.Run.{Body, data_piece, part_piece, reference_piece, comment_piece, pi_piece, declaration_piece, doctype_piece, Tok, start_tok, empty_tok, end_tok, piece_tok, tok_text, IsToken, IsOfKind, State, begin, is_inside, with_item, with_more, step, Reads, done, more, IsBody}
+use Rattle.xt_read.specs.Run.{Body, data_piece, part_piece, reference_piece, comment_piece, pi_piece, declaration_piece, doctype_piece, Tok, start_tok, empty_tok, end_tok, piece_tok, tok_text, IsToken, IsOfKind, State, begin, is_inside, with_item, with_more, step, Reads, IsBody, Passes, here, past}
 use Rattle.xt_read.proofs.Runs.{no_step, reads_rest}
 use Rattle.xt_read.proofs.Complete.{stands, body_is_read}
 use Rattle.xt_read.proofs.Sound.{guarded, spelled_text, split_front}
@@ -98,8 +97,8 @@ no_blank_front a b isnt = list_all-append is_space a b ∙ ap (λ x. x && list_a
 -- what begins with character data, not all of it white space, is not read at the top of a document
 no_data_at_top : (s u : State) (text t rest : List ℕ) → Reads s text u → text ≡ t ++ rest → is_inside s ≡ false → list_all is_space t ≡ false → AllPlain t → ⊥
 no_data_at_top s u text [] rest run e top isnt plain = absurd (let mixed : true ≡ false = isnt in cc)
-no_data_at_top s u text (b ∷ bs) rest (done s') e top isnt plain = absurd (let empty : [] ≡ b ∷ (bs ++ rest) = e in cc)
-no_data_at_top s u text (b ∷ bs) rest (more s' v u' text' tok is steps run) e top isnt plain =
+no_data_at_top s u text (b ∷ bs) rest (here s' t0') e top isnt plain = absurd (let empty : [] ≡ b ∷ (bs ++ rest) = e in cc)
+no_data_at_top s u text (b ∷ bs) rest (past s' v u' text' r0' tok is steps run) e top isnt plain =
     let behind = drop (length (tok_text tok)) text in
     elim (kinds is.kind) [
       | inl is_data ↦

@@ -1,17 +1,16 @@
 -- A text is read to one state at most: at each place one token stands.
-use Rattle.std.proofs.Common.{◌≡◌, ◌≢◌, ◌∙◌, ℕ, ◌<◌, ◌≤◌, List, [], ◌∷◌, length, drop, refl, sym, ap, subst, Some, None, Option, Err, arith, ◌+◌, Bool, true, false, not, ◌&&◌, if◌then◌else◌, inl, inr}
+use Rattle.std.proofs.Common.{◌≡◌, ◌≢◌, ◌∙◌, ℕ, ◌<◌, ◌≤◌, List, [], ◌∷◌, length, drop, refl, sym, ap, subst, Some, None, Option, Err, arith, ◌+◌, Bool, true, false, not, ◌&&◌, if◌then◌else◌, inl, inr, IfSome}
 use Rattle.xt_spec.specs.Token.{NoFront}
 use Rattle.std.proofs.lemmas.List.{drop-drop}
 use Rattle.std.proofs.Math.ListN.{drop_of_length-le}
 use Rattle.xt_spec.specs.Tree.{Items, items_of}
 use Rattle.xt_lex.specs.declared.token.Token.{Token}
-use Rattle.xt_read.specs.declared.unread.Unread.{Unread}
-use Rattle.xt_read.specs.declared.unread.Unread.TheVariants.{NotUtf8, Encoding, NotWellFormed, TooDeep, NoMemory}
+use Rattle.xt_spec.specs.FirstFault.{ReadingFault, not_utf8, encoding, not_well_formed, too_deep}
 use Rattle.xt_read.specs.declared.unread.Halt.{Halt}
 use Rattle.xt_read.specs.declared.unread.Halt.TheVariants as halt
 use Rattle.xt_read.specs.declared.unread.Halt.TheVariants.{Misplaced}
-use Rattle.xt_read.specs.Faults.{fault_at, Passes, here, past, IsHalt, IsHaltAt, IsBodyFault}
-use Rattle.xt_read.specs.Run.{Body, Tok, start_tok, empty_tok, end_tok, piece_tok, tok_text, IsToken, State, begin, with_text, is_full, is_too_deep, Reads, done, more, step, IsWhole, IsRead}
+use Rattle.xt_read.specs.Faults.{reading_fault, fault_at, IsHalt, IsHaltAt, IsBodyFault}
+use Rattle.xt_read.specs.Run.{Body, Tok, start_tok, empty_tok, end_tok, piece_tok, tok_text, IsToken, State, begin, with_text, is_full, is_too_deep, Reads, step, IsWhole, IsRead, Passes, here, past}
 use Rattle.xt_read.specs.Steps.{Takes}
 use Rattle.xt_read.proofs.Tokens.{token_some, token_within, token_unique}
 
@@ -22,32 +21,32 @@ pub no_token_of_nil : (tok : Tok) → IsToken tok [] → ⊥
 no_token_of_nil tok is = omega (arith, token_some tok [] is, token_within tok [] is)
 
 pub next_reads : (s t u : State) (text : List ℕ) (tok : Tok) → IsToken tok text → step s tok ≡ Some t → Reads s text u → Reads t (drop (length (tok_text tok)) text) u
-next_reads s t u text tok found steps (done s') = absurd (no_token_of_nil tok found)
-next_reads s t u text tok found steps (more s' t' u' text' tok' found' steps' rest) =
+next_reads s t u text tok found steps (here s' t0') = absurd (no_token_of_nil tok found)
+next_reads s t u text tok found steps (past s' t' u' text' r0' tok' found' steps' rest) =
     let same : tok' ≡ tok = token_unique tok' tok text found' found in
     let same_state : t' ≡ t = some_same (step s tok) t' t (subst (λ (k : Tok). step s k ≡ Some t') same steps') steps in
     let R : State → Type 0 = λ v. Reads v (drop (length (tok_text tok)) text) u in
     subst R same_state (subst (λ (k : Tok). Reads t' (drop (length (tok_text k)) text) u) same rest)
 
 pub no_token : (s u : State) (text : List ℕ) → 0 < length text → NoFront text → Reads s text u → ⊥
-no_token s u text some none (done s') = omega arith
-no_token s u text some none (more s' t' u' text' tok' found' steps' rest) = none found'.kind (length (tok_text tok')) found'.longest.front
+no_token s u text some none (here s' t0') = omega arith
+no_token s u text some none (past s' t' u' text' r0' tok' found' steps' rest) = none found'.kind (length (tok_text tok')) found'.longest.front
 
 pub no_step : (s u : State) (text : List ℕ) (tok : Tok) → IsToken tok text → step s tok ≡ None → Reads s text u → ⊥
-no_step s u text tok found none (done s') = no_token_of_nil tok found
-no_step s u text tok found none (more s' t' u' text' tok' found' steps' rest) =
+no_step s u text tok found none (here s' t0') = no_token_of_nil tok found
+no_step s u text tok found none (past s' t' u' text' r0' tok' found' steps' rest) =
     let same : tok' ≡ tok = token_unique tok' tok text found' found in
     let e : step s tok ≡ Some t' = subst (λ (k : Tok). step s k ≡ Some t') same steps' in
     cc
 
 reads_none : (s u : State) → Reads s [] u → s ≡ u
-reads_none s u (done s') = refl
-reads_none s u (more s' t' u' text' tok' found' steps' rest) = absurd (no_token_of_nil tok' found')
+reads_none s u (here s' t0') = refl
+reads_none s u (past s' t' u' text' r0' tok' found' steps' rest) = absurd (no_token_of_nil tok' found')
 
 -- The rest of a text is read to one state at most.
 pub one_run : (s u v : State) (text : List ℕ) → Reads s text u → Reads s text v → u ≡ v
-one_run s u v text (done s') other = reads_none s v other
-one_run s u v text (more s' t u' text' tok found steps rest) other = one_run t u v (drop (length (tok_text tok)) text) rest (next_reads s t v text tok found steps other)
+one_run s u v text (here s' t0') other = reads_none s v other
+one_run s u v text (past s' t u' text' r0' tok found steps rest) other = one_run t u v (drop (length (tok_text tok)) text) rest (next_reads s t v text tok found steps other)
 
 -- ---- a front of a text
 
@@ -60,7 +59,7 @@ passes_push s u v text rest tok is steps (past s' t' u' text' rest' tok' is' ste
 pub passes_reads : (s u v : State) (text rest : List ℕ) → Passes s text u rest → Reads u rest v → Reads s text v
 passes_reads s u v text rest (here s' text') run = run
 passes_reads s u v text rest (past s' t' u' text' rest' tok is steps others) run =
-    more s t' v text tok is steps (passes_reads t' u v (drop (length (tok_text tok)) text) rest others run)
+    past s t' v text [] tok is steps (passes_reads t' u v (drop (length (tok_text tok)) text) rest others run)
 
 -- what reads all reads the rest
 pub reads_rest : (s u v : State) (text rest : List ℕ) → Passes s text u rest → Reads s text v → Reads u rest v
@@ -75,9 +74,6 @@ goes_on s u v text bytes at to tok is size steps passes =
 
 pub ends_here : (s u : State) (text bytes : List ℕ) (at : ℕ) → length bytes ≤ at → Passes s text u (drop at bytes) → Passes s text u []
 ends_here s u text bytes at size passes = subst (λ (r : List ℕ). Passes s text u r) (drop_of_length-le bytes size) passes
-
-pub passes_all : (s u : State) (text : List ℕ) → Passes s text u [] → Reads s text u
-passes_all s u text passes = passes_reads s u u text [] passes (done u)
 
 -- ---- a halt
 
@@ -101,20 +97,23 @@ halted s u text (inl (some, none)) run whole = no_token s u text (some_bytes tex
 halted s u text (inr (inl is)) run whole = no_step s u text is.tok is.is is.none run
 halted s u text (inr (inr (end, never))) run whole = never (subst IsWhole (sym (reads_none s u (subst (λ (t : List ℕ). Reads s t u) end run))) whole)
 
-halted_at : (text : List ℕ) (at : ℕ) (s u : State) (fault : Unread) → IsHaltAt text at s fault → (fault ≡ NoMemory → ⊥) → Reads s (drop at text) u → IsWhole u → ⊥
-halted_at text at s u (NotWellFormed place) is some run whole = halted s u (drop at text) is.1 run whole
-halted_at text at s u TooDeep is some run whole = no_step s u (drop at text) is.tok is.is (too_deep_none s is.tok is.level) run
-halted_at text at s u NoMemory is some run whole = some refl
-halted_at text at s u (NotUtf8 place) is some run whole = is
-halted_at text at s u Encoding is some run whole = is
+halted_at : (text : List ℕ) (at : ℕ) (s u : State) (fault : ReadingFault) → IsHaltAt text at s fault → Reads s (drop at text) u → IsWhole u → ⊥
+halted_at text at s u (not_well_formed place) is run whole = halted s u (drop at text) is.1 run whole
+halted_at text at s u too_deep is run whole = no_step s u (drop at text) is.tok is.is (too_deep_none s is.tok is.level) run
+halted_at text at s u (not_utf8 place) is run whole = is
+halted_at text at s u encoding is run whole = is
+
+pub IfSome-weaker : {T : Type 0} (o : Option T) (P Q : T → Type 0) → ((x : T) → P x → Q x) → IfSome o P → IfSome o Q
+IfSome-weaker None P Q weaker is = tt
+IfSome-weaker (Some x) P Q weaker is = weaker x is
 
 -- A body with a fault is read as no items.
-pub no_items : (body : Body) (text : List ℕ) (from : ℕ) (fault : Unread) (list : Items) → IsBodyFault body text from fault → (fault ≡ NoMemory → ⊥) → IsRead body (drop from text) list → ⊥
-no_items body text from fault list is some read =
-    halted_at text is.at is.state read.last fault is.halts some (reads_rest (begin body) is.state read.last (drop from text) (drop is.at text) is.passes read.reads) read.whole
+pub no_items : (body : Body) (text : List ℕ) (from : ℕ) (fault : ReadingFault) (list : Items) → IsBodyFault body text from fault → IsRead body (drop from text) list → ⊥
+no_items body text from fault list is read =
+    halted_at text is.at is.state read.last fault is.halts (reads_rest (begin body) is.state read.last (drop from text) (drop is.at text) is.passes read.reads) read.whole
 
 -- a token that may not stand is a halt at its place
-pub stopped : (text : List ℕ) (at : ℕ) (token : Token) (s t : State) (h : Halt) → token.span.from ≡ at → Takes text token s (Err h) t → IsHaltAt text at s (fault_at h at)
+pub stopped : (text : List ℕ) (at : ℕ) (token : Token) (s t : State) (h : Halt) → token.span.from ≡ at → Takes text token s (Err h) t → IfSome (reading_fault (fault_at h at)) (IsHaltAt text at s)
 stopped text at token s t Misplaced from (tok, is, none, level) = (refl, inr (inl (record { tok = tok; is = subst (λ n. IsToken tok (drop n text)) from is.is; none = none; level = level })))
 stopped text at token s t halt.TooDeep from (tok, is, level) = record { tok = tok; is = subst (λ n. IsToken tok (drop n text)) from is.is; level = level }
 stopped text at token s t halt.NoMemory from takes = tt

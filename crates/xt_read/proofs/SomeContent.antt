@@ -1,5 +1,5 @@
 -- Items that are spelled give content by themselves, or give none.
-use Rattle.std.proofs.Common.{◌≡◌, ◌∙◌, ℕ, List, [], ◌∷◌, ◌++◌, refl, sym, ap, subst, ◌⊎◌, inl, inr, Bool, true, false, codes, Option, None, Some}
+use Rattle.std.proofs.Common.{◌≡◌, ◌∙◌, ℕ, List, [], ◌∷◌, refl, sym, subst, ◌⊎◌, inl, inr, codes, Option, None, Some}
 use Rattle.std.proofs.lemmas.Bool.{cases_Bool, both_ways}
 use Rattle.std.specs.List.{AllByRecursion}
 use Rattle.xt_spec.specs.Tag.{Attribute, IsAttribute, Tag}

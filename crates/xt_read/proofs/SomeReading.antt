@@ -1,36 +1,33 @@
 -- Each file is read in a role, or has a fault of the reader.
-use Rattle.std.proofs.Common.{zero, suc, ◌≡◌, ◌≢◌, ◌∙◌, ℕ, ◌+◌, ◌-◌, ◌<◌, ◌≤◌, List, [], ◌∷◌, ◌++◌, length, take, drop, refl, sym, ap, subst, arith, ◌⊎◌, inl, inr, Bool, true, false, Option, Some, None, bytes_eq, codes, nat_eq, if◌then◌else◌}
+use Rattle.std.proofs.Common.{zero, suc, ◌≡◌, ◌≢◌, ◌∙◌, ℕ, ◌+◌, ◌-◌, ◌<◌, ◌≤◌, List, [], ◌∷◌, ◌++◌, length, take, drop, refl, sym, ap, subst, arith, ◌⊎◌, inl, inr, false, Option, Some, None, nat_eq, if◌then◌else◌}
 use Rattle.std.proofs.lemmas.Bool.{cases_Bool, cases_lt, cases_eq, both_ways}
 use Rattle.std.proofs.lemmas.List.{drop-drop, length-drop, length-take-le, take-append-drop, take_all}
-use Rattle.std.proofs.lemmas.Slice.Eq.{bytes_eq-Decides}
 use Rattle.std.proofs.lemmas.Str.{IsUtf8-drop, IsCharBoundary-from_drop, IsUtf8-from_is_utf8, is_utf8-from_IsUtf8}
 use Rattle.std.specs.List.{starts_with}
-use Rattle.std.specs.Str.{IsUtf8, is_utf8, IsValidUpTo, IsCharBoundary}
-use Rattle.xt_spec.specs.Declaration.{Declaration, IsDeclaration, IsDeclarationOf, is_utf8_or_absent}
-use Rattle.xt_spec.specs.Reference.{IsPredefined}
-use Rattle.xt_spec.specs.Reading.{attribute_names, mark, Role, document, entity, fragment, plain_text, IsOrdered, IsReading}
+use Rattle.std.specs.Str.{IsUtf8, is_utf8, IsValidUpTo}
+use Rattle.xt_spec.specs.Declaration.{IsDeclaration, IsDeclarationOf, is_utf8_or_absent}
+use Rattle.xt_spec.specs.Reading.{attribute_names, mark, plain_text, IsOrdered, IsReading}
 use Rattle.xt_spec.specs.Token.{TokenKind, start_tag, empty_tag, end_tag, char_data, char_ref, entity_ref, cdata_section, comment, pi, declaration, doctype, Spells, IsLongestFront, NoFront}
-use Rattle.xt_spec.specs.Tree.{Items, nil, leaf, gap, items_of, append, source_text}
+use Rattle.xt_spec.specs.Tree.{Items, items_of, append, source_text}
 use Rattle.xt_lex.specs.declared.token.Span.{Span}
 use Rattle.xt_tree.specs.Meaning.{at_span}
 use Rattle.xt_lex.proofs.Theorems.{some_front, some_chars, front_boundary, front_some, declaration_unique}
-use Rattle.xt_read.specs.FrontSteps.{IsDeclarationAt, NoDeclarationAt, IsDeclaredAt, front_items, one_text_items}
-use Rattle.xt_spec.specs.Front.{NoDeclared, StandsDeclared, IsForeign, after_mark, mark_len, BeginsBody}
-use Rattle.xt_read.specs.Front.{role_of, form_of, body_for, markup_role_of, IsFront}
-use Rattle.xt_read.specs.Run.{Body, content_body, data_piece, part_piece, reference_piece, comment_piece, pi_piece, declaration_piece, doctype_piece, Tok, start_tok, empty_tok, end_tok, piece_tok, tok_text, IsToken, IsOfKind, State, begin, with_text, has_ended, is_too_deep, step, IsWhole, IsRead}
-use Rattle.xt_read.specs.Faults.{Passes, here, past, IsMisplaced, IsTooDeep, IsHalt, IsHaltAt, IsBodyFault, IsMarkupFault, IsPlainFault, IsTextFault, IsFaultOf}
+use Rattle.xt_read.specs.FrontSteps.{IsDeclarationAt, NoDeclarationAt, one_text_items}
+use Rattle.xt_spec.specs.Front.{IsForeign, after_mark}
+use Rattle.xt_spec.specs.FirstFault.{ReadingFault, not_utf8, encoding, not_well_formed, too_deep, HasBodyAt}
+use Rattle.xt_read.specs.Front.{role_of, form_of, body_for, markup_role_of, gaps_to}
+use Rattle.xt_read.specs.Run.{Body, data_piece, part_piece, reference_piece, comment_piece, pi_piece, declaration_piece, doctype_piece, Tok, start_tok, empty_tok, end_tok, piece_tok, tok_text, IsToken, IsOfKind, State, begin, with_text, has_ended, is_too_deep, step, IsWhole, IsRead, Passes, here, past}
+use Rattle.xt_read.specs.Faults.{IsMisplaced, IsTooDeep, IsHalt, IsHaltAt, IsBodyFault, IsMarkupFault, IsPlainFault, IsTextFault, IsFaultOf}
 use Rattle.xt_read.specs.declared.front.FileRole.{FileRole}
 use Rattle.xt_read.specs.declared.front.FileRole.TheVariants as file
 use Rattle.xt_read.specs.declared.front.MarkupRole.TheVariants as markup
-use Rattle.xt_read.proofs.FrontPlaces.{none_in_front, other_in_front, not_declared, none_declared, foreign_there, mark_boundary, mark_dropped, front_stands, text_fault, file_fault}
+use Rattle.xt_read.proofs.FrontPlaces.{none_in_front, other_in_front, not_declared, none_declared, foreign_there, mark_boundary, mark_dropped, has_body, text_fault, file_fault}
+use Rattle.xt_read.proofs.Fronts.{joins_body}
 use Rattle.xt_read.proofs.PlainTexts.{no_char_behind, one_text_reads}
 use Rattle.xt_read.proofs.Sound.{read_is_body}
 use Rattle.xt_read.specs.declared.front.MarkupRole.{MarkupRole}
-use Rattle.xt_read.specs.declared.unread.Unread.{Unread}
-use Rattle.xt_read.specs.declared.unread.Unread.TheVariants.{NotUtf8, Encoding, NotWellFormed, TooDeep, NoMemory}
 use Rattle.xt_read.proofs.Predefined.{is_predefined}
 use Rattle.xt_read.proofs.Tokens.{token_some, token_within}
-use Rattle.xt_read.proofs.Runs.{passes_all}
 use Rattle.xt_read.proofs.Whole.{ends_early}
 
 -- ---- the token at a place
@@ -127,8 +124,8 @@ is_whole s = by s.opened refl
     ]
     by (e ∷ others) some = inr (λ whole. let wrong = sym some ∙ whole.closed in cc)
 
-abbrev pub HasFault : (Unread → Type 0) → Type 0
-HasFault Is = (fault : Unread) × (fault ≢ NoMemory) × Is fault
+abbrev pub HasFault : (ReadingFault → Type 0) → Type 0
+HasFault Is = (fault : ReadingFault) × Is fault
 
 pub some_body : (body : Body) (text : List ℕ) (from : ℕ) → from ≤ length text → IsUtf8 (drop from text) → ((items : Items) × IsRead body (drop from text) items) ⊎ HasFault (IsBodyFault body text from)
 some_body body text from within utf8 = by (goes (length (drop from text)) (begin body) (drop from text) utf8 (omega arith))
@@ -138,8 +135,8 @@ some_body body text from within utf8 = by (goes (length (drop from text)) (begin
       | inl end ↦
           let passes : Passes (begin body) (drop from text) run.state [] = subst (Passes (begin body) (drop from text) run.state) end run.passes in
           elim (is_whole run.state) [
-            | inl whole ↦ inl (items_of (with_text run.state.items run.state.text), record { last = run.state; reads = passes_all (begin body) run.state (drop from text) passes; whole = whole; are = refl })
-            | inr never ↦ inr (NotWellFormed (length text), (λ e. cc), ends_early body text from run.state within passes never)
+            | inl whole ↦ inl (items_of (with_text run.state.items run.state.text), record { last = run.state; reads = passes; whole = whole; are = refl })
+            | inr never ↦ inr (not_well_formed (length text), ends_early body text from run.state within passes never)
           ]
       | inr halted ↦ inr (halts halted)
     ]
@@ -147,7 +144,7 @@ some_body body text from within utf8 = by (goes (length (drop from text)) (begin
         joined : drop run.at (drop from text) ≡ drop (from + run.at) text
         joined = drop-drop run.at from text
 
-        faulty : (fault : Unread) → IsHaltAt text (from + run.at) run.state fault → IsBodyFault body text from fault
+        faulty : (fault : ReadingFault) → IsHaltAt text (from + run.at) run.state fault → IsBodyFault body text from fault
         faulty fault is = record {
           at = from + run.at;
           order = omega arith;
@@ -158,16 +155,15 @@ some_body body text from within utf8 = by (goes (length (drop from text)) (begin
         }
 
         halts : (((drop run.at (drop from text) ≢ []) × NoFront (drop run.at (drop from text))) ⊎ (IsMisplaced run.state (drop run.at (drop from text)) ⊎ IsTooDeep run.state (drop run.at (drop from text)))) → HasFault (IsBodyFault body text from)
-        halts (inl none) = (NotWellFormed (from + run.at), (λ e. cc), faulty (NotWellFormed (from + run.at)) (refl, subst (IsHalt run.state) joined (inl none)))
-        halts (inr (inl misplaced)) = (NotWellFormed (from + run.at), (λ e. cc), faulty (NotWellFormed (from + run.at)) (refl, subst (IsHalt run.state) joined (inr (inl misplaced))))
-        halts (inr (inr deep)) = (TooDeep, (λ e. cc), faulty TooDeep (subst (IsTooDeep run.state) joined deep))
+        halts (inl none) = (not_well_formed (from + run.at), faulty (not_well_formed (from + run.at)) (refl, subst (IsHalt run.state) joined (inl none)))
+        halts (inr (inl misplaced)) = (not_well_formed (from + run.at), faulty (not_well_formed (from + run.at)) (refl, subst (IsHalt run.state) joined (inr (inl misplaced))))
+        halts (inr (inr deep)) = (too_deep, faulty too_deep (subst (IsTooDeep run.state) joined deep))
 
 -- ---- what stands in front
 
 pub record FrontOf (role : MarkupRole) (text : List ℕ) : Type 0 where
-  pub front : Items
   pub to : ℕ
-  pub is : IsFront role text front to
+  pub body : HasBodyAt (form_of role) text to
   pub within : to ≤ length text
   pub utf8 : IsUtf8 (drop to text)
 
@@ -186,9 +182,8 @@ is_declaration_kind doctype = inr (λ e. cc)
 
 no_declaration : (role : MarkupRole) (text : List ℕ) (len : ℕ) → len ≡ (if starts_with nat_eq text mark then 3 else 0) → len ≤ length text → IsUtf8 (drop len text) → NoDeclarationAt text len → FrontOf role text
 no_declaration role text len size within utf8 none = record {
-  front = front_items text len None;
   to = len;
-  is = front_stands role text len None size (none_declared (form_of role) text len none);
+  body = has_body role text len None size (none_declared (form_of role) text len none);
   within = within;
   utf8 = utf8;
 }
@@ -224,9 +219,8 @@ some_declaration role text len n size within utf8 longest = by longest.front.spe
     by : IsDeclaration (take n (drop len text)) → IsForeign (form_of role) (drop len text) ⊎ FrontOf role text
     by (d, is) = elim (cases_Bool (form_of role d)) [
       | inr fails ↦ inr (record {
-        front = front_items text len None;
         to = len;
-        is = front_stands role text len None size
+        body = has_body role text len None size
             (not_declared (form_of role) text len span d (place (d, is)) (λ e other. declaration_unique (at_span text span) e d other (subst (IsDeclarationOf d) (sym there) is)) fails);
         within = within;
         utf8 = utf8;
@@ -234,9 +228,8 @@ some_declaration role text len n size within utf8 longest = by longest.front.spe
       | inl has ↦ elim (cases_Bool (is_utf8_or_absent d.encoding)) [
         | inr foreign ↦ inl (foreign_there (form_of role) text len span d (place (d, is)) (subst (IsDeclarationOf d) (sym there) is) has foreign)
         | inl known ↦ inr (record {
-          front = front_items text len (Some span);
           to = len + n;
-          is = front_stands role text len (Some span) size (record { place = place (d, is); declares = (d, subst (IsDeclarationOf d) (sym there) is, has, known) });
+          body = has_body role text len (Some span) size (record { place = place (d, is); declares = (d, subst (IsDeclarationOf d) (sym there) is, has, known) });
           within = fits;
           utf8 = utf8_behind;
         })
@@ -277,12 +270,12 @@ some_markup role text utf8 = let m = mark_of text utf8 in by (some_at role text 
     behind : (f : FrontOf role text) → ((items : Items) × IsRead (body_for role) (drop f.to text) items) ⊎ HasFault (IsBodyFault (body_for role) text f.to) → ((items : Items) × IsOrdered (markup_role_of role) items × (source_text items ≡ text)) ⊎ HasFault (IsMarkupFault role text)
     behind f (inl (items, read)) =
         let main = read_is_body (body_for role) (drop f.to text) items read in
-        let whole = f.is.opens items main.0 main.1 in
-        inl (append f.front items, whole.0, whole.1)
-    behind f (inr (fault, some, is)) = inr (fault, some, text_fault role text f.front f.to fault f.is is)
+        let whole = (joins_body role text f.to f.body).opens items main.0 main.1 in
+        inl (append (gaps_to text f.to) items, whole.0, whole.1)
+    behind f (inr (fault, is)) = inr (fault, text_fault role text f.to fault f.body is)
 
     by : IsForeign (form_of role) (after_mark text) ⊎ FrontOf role text → ((items : Items) × IsOrdered (markup_role_of role) items × (source_text items ≡ text)) ⊎ HasFault (IsMarkupFault role text)
-    by (inl foreign) = inr (Encoding, (λ e. cc), foreign)
+    by (inl foreign) = inr (encoding, foreign)
     by (inr f) = behind f (some_body (body_for role) text f.to f.within f.utf8)
 
 some_plain : (text : List ℕ) → IsUtf8 text → ((items : Items) × IsOrdered plain_text items × (source_text items ≡ text)) ⊎ HasFault (IsPlainFault text)
@@ -291,7 +284,7 @@ some_plain text utf8 =
     let found = some_chars (drop m.len text) m.utf8 in
     elim (cases_eq (m.len + found.0) (length text)) [
       | inl whole ↦ let reads = one_text_reads text m.len found.0 m.size m.within found.1 whole in inl (one_text_items text m.len (length text), reads.0, reads.1)
-      | inr short ↦ inr (NotWellFormed (m.len + found.0), (λ e. cc), no_char_behind text m.len found.0 utf8 m.size m.within found.1 short)
+      | inr short ↦ inr (not_well_formed (m.len + found.0), no_char_behind text m.len found.0 utf8 m.size m.within found.1 short)
     ]
 
 some_text : (role : FileRole) (text : List ℕ) → IsUtf8 text → ((items : Items) × IsOrdered (role_of role) items × (source_text items ≡ text)) ⊎ HasFault (IsTextFault role text)
@@ -336,12 +329,12 @@ valid_up_to bs = elim (cases_Bool (is_utf8 bs)) [
       ];
     }
 
-pub reads_or_faults : (role : FileRole) (bytes : List ℕ) → ((items : Items) × IsReading (role_of role) bytes items) ⊎ ((fault : Unread) × (fault ≢ NoMemory) × IsFaultOf role bytes fault)
+pub reads_or_faults : (role : FileRole) (bytes : List ℕ) → ((items : Items) × IsReading (role_of role) bytes items) ⊎ ((fault : ReadingFault) × IsFaultOf role bytes fault)
 reads_or_faults role bytes = elim (valid_up_to bytes) [
-  | inr wrong ↦ inr (NotUtf8 wrong.1, (λ e. cc), (wrong.0, wrong.2))
+  | inr wrong ↦ inr (not_utf8 wrong.1, (wrong.0, wrong.2))
   | inl utf8 ↦ by utf8 (some_text role bytes utf8)
 ]
   where
-    by : IsUtf8 bytes → ((items : Items) × IsOrdered (role_of role) items × (source_text items ≡ bytes)) ⊎ HasFault (IsTextFault role bytes) → ((items : Items) × IsReading (role_of role) bytes items) ⊎ ((fault : Unread) × (fault ≢ NoMemory) × IsFaultOf role bytes fault)
+    by : IsUtf8 bytes → ((items : Items) × IsOrdered (role_of role) items × (source_text items ≡ bytes)) ⊎ HasFault (IsTextFault role bytes) → ((items : Items) × IsReading (role_of role) bytes items) ⊎ ((fault : ReadingFault) × IsFaultOf role bytes fault)
     by utf8 (inl (items, ordered, joined)) = inl (items, record { utf8 = utf8; joined = joined; ordered = ordered })
-    by utf8 (inr (fault, some, is)) = inr (fault, some, file_fault role bytes bytes fault refl utf8 is)
+    by utf8 (inr (fault, is)) = inr (fault, file_fault role bytes bytes fault refl utf8 is)

@@ -18,8 +18,8 @@ use Rattle.xt_spec.specs.Markup.{IsComment, IsPi}
 use Rattle.xt_spec.specs.Doctype.{IsDoctype}
 use Rattle.xt_spec.specs.Text.{TextPart, data_part, reference_part, section_part, part_text, parts_text, begins_with_data, AreTextParts}
 use Rattle.xt_spec.specs.Reading.{are_distinct, attribute_names, IsElement, IsElementAt, IsContent, Stage, before_doctype, before_root, behind_root, is_before_root, begins_with_space, Leads}
-use Rattle.xt_read.specs.Run.{Body, document_body, content_body, first_stage, IsBody, Piece, data_piece, part_piece, reference_piece, comment_piece, pi_piece, declaration_piece, doctype_piece, Tok, start_tok, empty_tok, end_tok, piece_tok, tok_text, IsPiece, AreTagNames, IsToken, OpenElement, State, begin, with_text, longer, is_top, is_content, is_inside, begins_root, begins_document, behind_element, has_room, with_item, with_more, with_doctype, closed, step, Reads, done, more, has_ended, IsRead}
-use Rattle.xt_read.specs.Faults as faults
+use Rattle.xt_read.specs.Run as run
+use Rattle.xt_read.specs.Run.{Body, document_body, content_body, first_stage, IsBody, Piece, data_piece, part_piece, reference_piece, comment_piece, pi_piece, declaration_piece, doctype_piece, Tok, start_tok, empty_tok, end_tok, piece_tok, tok_text, IsPiece, AreTagNames, IsToken, OpenElement, State, begin, with_text, longer, is_top, is_content, is_inside, begins_root, begins_document, behind_element, has_room, with_item, with_more, with_doctype, closed, step, Reads, has_ended, IsRead, Passes}
 use Rattle.xt_read.proofs.Tokens.{token_some}
 use Rattle.xt_read.proofs.Complete.{doctype_no_blank}
 use Rattle.xt_read.proofs.ItemLemmas as items
@@ -477,8 +477,8 @@ pending_part (Some a) p here rest (parts, are, some, joined, before) is plain la
 
 pending_piece : (text : Option (List ℕ)) (t here rest : List ℕ) → Pending text here → (kind : TokenKind) → IsPiece kind part_piece t → Spells kind t → Pending (Some (longer text t)) rest
 pending_piece text t here rest pending kind (inl section) spelled =
-    let (content, chars, lacks, is) = subst (λ k. Spells k t) section spelled in
-    pending_part text (section_part t content) here rest pending ((chars, lacks, is), tt) refl refl
+    let (content, is) = subst (λ k. Spells k t) section spelled in
+    pending_part text (section_part t content) here rest pending (is, tt) refl refl
 pending_piece text t here rest pending kind (inr (kinds, c, stands)) spelled = pending_part text (reference_part t c) here rest pending (stands, tt) refl refl
 
 -- ---- one step
@@ -647,8 +647,8 @@ pub split_front : (tok : Tok) (text : List ℕ) → IsToken tok text → tok_tex
 split_front tok text is = ap (λ t. t ++ drop (length (tok_text tok)) text) (sym is.front) ∙ take-append-drop (length (tok_text tok)) text
 
 sound : (s u : State) (text : List ℕ) → Reads s text u → Good s text → Good u [] × (state_text u ≡ state_text s ++ text)
-sound s u text (done s') good = (good, sym (append-nil (state_text s)))
-sound s u text (more s' t u' text' tok is steps rest) good =
+sound s u text (run.here s' t0') good = (good, sym (append-nil (state_text s)))
+sound s u text (run.past s' t u' text' r0' tok is steps rest) good =
     let next = sound_at s.opened s.items s.text s.stage t tok text is steps good in
     let last = sound t u (drop (length (tok_text tok)) text) rest next.0 in
     (last.0, last.1 ∙ ap (λ a. a ++ drop (length (tok_text tok)) text) next.1 ∙ append_assoc (state_text s) (tok_text tok) (drop (length (tok_text tok)) text) ∙ ap (λ a. state_text s ++ a) (split_front tok text is))
@@ -713,8 +713,8 @@ stage_step body s t (piece_tok doctype_piece text) steps of =
     of_root content_body stage first of = absurd (let h : false ≡ true = ap begins_document (sym of) ∙ first in cc)
 
 stage_of_run : (body : Body) (s u : State) (text : List ℕ) → Reads s text u → IsOf body s.stage → IsOf body u.stage
-stage_of_run body s u text (done s') of = of
-stage_of_run body s u text (more s' t u' text' tok is steps rest) of = stage_of_run body t u (drop (length (tok_text tok)) text) rest (stage_step body s t tok steps of)
+stage_of_run body s u text (run.here s' t0') of = of
+stage_of_run body s u text (run.past s' t u' text' r0' tok is steps rest) of = stage_of_run body t u (drop (length (tok_text tok)) text) rest (stage_step body s t tok steps of)
 
 first_is_of : (body : Body) → IsOf body (first_stage body)
 first_is_of content_body = refl
@@ -745,10 +745,10 @@ good_named : (opened : List OpenElement) (items : List Item) (text : Option (Lis
 good_named [] items text stage rest good = tt
 good_named (e ∷ es) items text stage rest good = opened_named stage (e ∷ es) good.0
 
-good_passes : (s u : State) (text rest : List ℕ) → faults.Passes s text u rest → Good s text → Good u rest
-good_passes s u text rest (faults.here s' text') good = good
-good_passes s u text rest (faults.past s' t u' text' rest' tok is steps others) good =
+good_passes : (s u : State) (text rest : List ℕ) → Passes s text u rest → Good s text → Good u rest
+good_passes s u text rest (run.here s' text') good = good
+good_passes s u text rest (run.past s' t u' text' rest' tok is steps others) good =
     good_passes t u (drop (length (tok_text tok)) text) rest others (sound_at s.opened s.items s.text s.stage t tok text is steps good).0
 
-pub passes_named : (body : Body) (text rest : List ℕ) (u : State) → faults.Passes (begin body) text u rest → AreNamed u.opened
+pub passes_named : (body : Body) (text rest : List ℕ) (u : State) → Passes (begin body) text u rest → AreNamed u.opened
 passes_named body text rest u passes = good_named u.opened u.items u.text u.stage rest (good_passes (begin body) u text rest passes (good_first body text))

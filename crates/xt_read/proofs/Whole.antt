@@ -7,11 +7,10 @@ use Rattle.xt_tree.specs.declared.source.Src.{Src}
 use Rattle.xt_tree.specs.Meaning.{at_span, item_of, items_in}
 use Rattle.xt_read.specs.declared.reader.Frame.{Frame}
 use Rattle.xt_read.specs.declared.reader.Reader.{Reader}
-use Rattle.xt_read.specs.declared.unread.Unread.TheVariants.{NotWellFormed, NoMemory}
+use Rattle.xt_spec.specs.FirstFault.{not_well_formed}
 use Rattle.xt_read.specs.Progress.{element_of, state_of}
-use Rattle.xt_read.specs.Run.{Body, OpenElement, State, begin, with_text, is_top, IsWhole, IsRead}
-use Rattle.xt_read.specs.Faults.{Passes, here, IsHalt, IsBodyFault}
-use Rattle.xt_read.proofs.Runs.{passes_all}
+use Rattle.xt_read.specs.Run.{Body, OpenElement, State, begin, with_text, is_top, IsWhole, IsRead, Passes}
+use Rattle.xt_read.specs.Faults.{IsHalt, IsBodyFault}
 
 none_of_length : (frames : List Frame) → length frames ≡ 0 → frames ≡ []
 none_of_length [] e = refl
@@ -31,24 +30,13 @@ pub is_read : (body : Body) (text : List ℕ) (from : ℕ) (reader : Reader) (se
     → IsRead body (drop from text) (items_in text items)
 is_read body text from reader settled items passes whole all same = record {
   last = state_of text reader;
-  reads = passes_all (begin body) (state_of text reader) (drop from text) passes;
+  reads = passes;
   whole = whole;
   are = sym (ap (λ (l : List Src). items_in text l) same ∙ ap items_of all);
 }
 
--- memory may run out at any point
-pub out_of_memory : (body : Body) (text : List ℕ) (from : ℕ) → from ≤ length text → IsBodyFault body text from NoMemory
-out_of_memory body text from within = record {
-  at = from;
-  order = omega arith;
-  within = within;
-  state = begin body;
-  passes = here (begin body) (drop from text);
-  halts = tt;
-}
-
 -- where something is left open, the text ends too early
-pub ends_early : (body : Body) (text : List ℕ) (from : ℕ) (s : State) → from ≤ length text → Passes (begin body) (drop from text) s [] → (IsWhole s → ⊥) → IsBodyFault body text from (NotWellFormed (length text))
+pub ends_early : (body : Body) (text : List ℕ) (from : ℕ) (s : State) → from ≤ length text → Passes (begin body) (drop from text) s [] → (IsWhole s → ⊥) → IsBodyFault body text from (not_well_formed (length text))
 ends_early body text from s within passes never =
     let size : length text ≤ length text = omega arith in
     let none : drop (length text) text ≡ [] = drop_of_length-le text size in

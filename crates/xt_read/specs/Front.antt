@@ -4,14 +4,15 @@
 --   role_of      the role in which a file is read; markup_role_of: .. of a file of markup
 --   form_of      which declaration a role has
 --   body_for     what follows it
---   IsFront      these gaps stand in front, and a body behind them
-use Rattle.std.specs.Prelude.{◌≡◌, ℕ, Bool, List, drop}
+--   gaps_to      the gaps in front of a body that begins at a place
+use Rattle.std.specs.Prelude.{ℕ, ◌-◌, Bool, List, [], ◌∷◌, take, nat_eq, if◌then◌else◌}
+use Rattle.std.specs.List.{starts_with}
 use Rattle.xt_spec.specs.Declaration.{Declaration}
-use Rattle.xt_spec.specs.Tree.{Items, append, source_text}
-use Rattle.xt_spec.specs.Reading.{Role, document, entity, plain_text, IsOrdered}
+use Rattle.xt_spec.specs.Tree.{Items, nil, leaf, gap}
+use Rattle.xt_spec.specs.Reading.{Role, document, entity, plain_text, mark}
 use Rattle.xt_spec.specs.Front as front
-use Rattle.xt_spec.specs.Front.{after_mark, IsForeign, BeginsBody}
-use Rattle.xt_read.specs.Run.{Body, document_body, content_body, IsBody}
+use Rattle.xt_spec.specs.Front.{after_mark, mark_len}
+use Rattle.xt_read.specs.Run.{Body, document_body, content_body}
 use Rattle.xt_read.specs.declared.front.FileRole.{FileRole}
 use Rattle.xt_read.specs.declared.front.FileRole.TheVariants as file
 use Rattle.xt_read.specs.declared.front.MarkupRole.{MarkupRole}
@@ -36,10 +37,15 @@ abbrev pub body_for : MarkupRole → Body
 body_for code.Document = document_body
 body_for code.Entity = content_body
 
--- these items stand in front of a file of this role, and its body begins at this place; no encoding hinders it
-pub record IsFront (role : MarkupRole) (text : List ℕ) (front : Items) (to : ℕ) : Type 0 where
-  pub opens : (list : Items) → IsBody (body_for role) list → source_text list ≡ drop to text → IsOrdered (markup_role_of role) (append front list) × (source_text (append front list) ≡ text)
-  pub only : (items : Items) → IsOrdered (markup_role_of role) items → source_text items ≡ text
-      → (list : Items) × (items ≡ append front list) × IsBody (body_for role) list × (source_text list ≡ drop to text)
-  pub known : ¬ IsForeign (form_of role) (after_mark text)
-  pub begins : BeginsBody (form_of role) text to
+-- the gap of this text, or none where it is empty
+abbrev pub gap_of : List ℕ → Items
+gap_of [] = nil
+gap_of (b ∷ text) = leaf gap (b ∷ text) nil
+
+-- the items, behind the gap of the byte order mark with which the text begins, where it does
+abbrev pub behind_mark : List ℕ → Items → Items
+behind_mark text items = if starts_with nat_eq text mark then leaf gap mark items else items
+
+-- the gaps in front of a body that begins at this place of the text: of a byte order mark, and of what stands behind it
+abbrev pub gaps_to : List ℕ → ℕ → Items
+gaps_to text to = behind_mark text (gap_of (take (to - mark_len text) (after_mark text)))

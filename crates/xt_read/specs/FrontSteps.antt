@@ -2,10 +2,9 @@
 --
 --   IsDeclarationAt  one stands there, with this span; NoDeclarationAt: none does
 --   IsDeclaredAt     .. of a form, that names no other encoding than UTF-8
---   IsFrontFault     why a front is not read
 --   front_items      the gaps of a mark and a declaration; front_marks: their marks
 --   one_text_items   the items of a text behind a mark; one_text_marks: their marks
-use Rattle.std.specs.Prelude.{◌≡◌, ◌⊎◌, ℕ, ◌<◌, ◌≤◌, Bool, List, [], ◌∷◌, ◌++◌, length, drop, ◌==◌, if◌then◌else◌, Option, None, Some}
+use Rattle.std.specs.Prelude.{◌≡◌, ℕ, ◌<◌, ◌≤◌, Bool, List, [], ◌∷◌, ◌++◌, length, drop, ◌==◌, if◌then◌else◌, Option, None, Some}
 use Rattle.std.specs.Str.{IsCharBoundary}
 use Rattle.xt_spec.specs.Declaration.{Declaration, IsDeclaration}
 use Rattle.xt_spec.specs.Reading.{DeclaresUtf8}
@@ -13,11 +12,6 @@ use Rattle.xt_lex.specs.declared.token.Span.{Span}
 use Rattle.xt_spec.specs.Tree.{Items, nil, leaf, text_item, gap}
 use Rattle.xt_tree.specs.Meaning.{at_span}
 use Rattle.xt_tree.specs.Places.{Mark, span_mark}
-use Rattle.xt_spec.specs.Front.{after_mark, IsForeign}
-use Rattle.xt_read.specs.Front.{form_of}
-use Rattle.xt_read.specs.declared.front.MarkupRole.{MarkupRole}
-use Rattle.xt_read.specs.declared.unread.Unread.{Unread}
-use Rattle.xt_read.specs.declared.unread.Unread.TheVariants as unread
 
 pub record IsDeclarationAt (text : List ℕ) (at : ℕ) (span : Span) : Type 0 where
   pub from_is : span.from ≡ at
@@ -33,10 +27,6 @@ NoDeclarationAt text at = (spelled rest : List ℕ) → drop at text ≡ spelled
 pub record IsDeclaredAt (form : Declaration → Bool) (text : List ℕ) (at : ℕ) (span : Span) : Type 0 where
   pub place : IsDeclarationAt text at span
   pub declares : DeclaresUtf8 form (at_span text span)
-
--- want of memory, or another encoding
-abbrev pub IsFrontFault : MarkupRole → List ℕ → Unread → Type 0
-IsFrontFault role text e = (e ≡ unread.NoMemory) ⊎ ((e ≡ unread.Encoding) × IsForeign (form_of role) (after_mark text))
 
 -- the gap of a byte order mark of so many bytes, or none
 abbrev pub mark_gap : List ℕ → ℕ → Items → Items

@@ -8,7 +8,7 @@
 --   State        what was read so far
 --   is_too_deep  a tag would begin an element at level 129
 --   step         the state behind a token; none where the token may not stand
---   Reads        a text is read from one state to another
+--   Passes       a front of a text is read from one state to another; Reads: the whole of it is
 --   IsWhole      nothing is left open
 --   IsRead       a text is read from the beginning, to a whole document or content of these items
 use Rattle.std.specs.Prelude.{◌≡◌, ◌⊎◌, ℕ, nat_lt, Bool, true, false, not, ◌&&◌, ◌||◌, List, [], ◌∷◌, ◌++◌, length, take, drop, codes, bytes_eq, Option, None, Some, if◌then◌else◌}
@@ -207,11 +207,16 @@ step s (empty_tok text names) =
 step s (end_tok text name) = closed s.opened s text name
 step s (piece_tok piece text) = piece_step s piece text
 
--- the text is read, token by token, from one state to another
-pub data Reads : State → List ℕ → State → Type 0 where
-  done : (s : State) → Reads s [] s
-  more : (s t u : State) (text : List ℕ) (tok : Tok) → IsToken tok text → step s tok ≡ Some t
-      → Reads t (drop (length (tok_text tok)) text) u → Reads s text u
+-- from one state a front of the text is read to another, before the rest: each token is the longest at its place, and may
+-- stand there
+pub data Passes : State → List ℕ → State → List ℕ → Type 0 where
+  here : (s : State) (text : List ℕ) → Passes s text s text
+  past : (s t u : State) (text rest : List ℕ) (tok : Tok) → IsToken tok text → step s tok ≡ Some t
+      → Passes t (drop (length (tok_text tok)) text) u rest → Passes s text u rest
+
+-- .. to its end
+abbrev pub Reads : State → List ℕ → State → Type 0
+Reads s text u = Passes s text u []
 
 -- the document element came, where there has to be one
 abbrev pub has_ended : Option Stage → Bool

@@ -1,13 +1,13 @@
 //! How a reader goes on with one token of the text.
 
-ghost use Rattle.std.specs.Prelude.{◌≡◌, ◌<◌, ◌≤◌, ◌+◌, ◌^◌, ℕ, length, drop, OnOk, IfOk, IfErr};
+ghost use Rattle.std.specs.Prelude.{◌≡◌, ◌<◌, ◌≤◌, ◌+◌, ◌^◌, ℕ, length, drop, OnOk, IfOk, IfErr, IfSome};
 ghost use Rattle.std.specs.Str.{IsCharBoundary};
 ghost use Rattle.xt_tree.specs.Meaning.{at_span};
 ghost use Rattle.xt_lex.specs.Kinds.{kind_of};
 ghost use Rattle.xt_lex.specs.declared.token.Kind.TheVariants as kind;
 ghost use Rattle.xt_read.specs.Progress.{state_of, IsPlaced, PlacesOn};
 ghost use Rattle.xt_read.specs.Steps.{Takes, IsTokenAt};
-ghost use Rattle.xt_read.specs.Faults.{IsHaltAt};
+ghost use Rattle.xt_read.specs.Faults.{reading_fault, IsHaltAt};
 ghost use Rattle.xt_read.specs.Run.{part_piece, reference_piece, IsPiece, Tok, tok_text, IsToken, step};
 
 use crate::reader::Reader;
@@ -179,7 +179,7 @@ impl Reader {
         ensures value { IfOk result (λ to. (tok : Tok) × IsToken tok (drop at text.now) × (to ≡ at + length (tok_text tok)) × (step (state_of text.now self.old) tok ≡ Some (state_of text.now self.new))) }
         ensures place { IfOk result (PlacesOn text.now self.old self.new at) }
         ensures on { IfOk result (λ to. (at < to) × (to ≤ length text.now) × IsCharBoundary text.now to) }
-        ensures fault { IfErr result (IsHaltAt text.now at (state_of text.now self.old)) }
+        ensures fault { IfErr result (λ e. IfSome (reading_fault e) (IsHaltAt text.now at (state_of text.now self.old))) }
     {
         let Ok(token) = next_token(text, at) else {
             return Err(Unread::NotWellFormed { at });

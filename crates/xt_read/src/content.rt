@@ -7,7 +7,7 @@ ghost use Rattle.xt_spec.specs.Markup.{begins};
 ghost use Rattle.xt_spec.specs.Reading.{document, IsReading};
 ghost use Rattle.xt_spec.specs.Tag.{Attribute, IsAttValue};
 ghost use Rattle.xt_spec.specs.Tree.{nil, before};
-ghost use Rattle.xt_lex.specs.Scan.{take_while, drop_while};
+ghost use Rattle.xt_scan.specs.Step.{take_while, drop_while};
 ghost use Rattle.xt_tree.specs.Meaning.{at_span, item_of, items_in};
 ghost use Rattle.xt_tree.specs.Places.{IsTagAt, AreInPlace, marks_in, marks_of};
 ghost use Rattle.xt_read.specs.References.{LacksByte, is_other, IsUpToSemicolon, AreSingles, HasParts, BeginsReference, HasNoParts, IsPastReference, IsUnquoted};

@@ -46,7 +46,7 @@ fn read_markup(alloc: Global, text: &str, role: MarkupRole) -> Result<Items<Src>
     requires fits { length text.now < 2 ^ 32 }
     ensures value { IfOk result (λ items. IsOrdered (markup_role_of role) (items_in text.now items) × (source_text (items_in text.now items) ≡ text.now)) }
     ensures place { IfOk result (λ items. AreInPlace text.now 0 (marks_of items) (length text.now)) }
-    ensures fault { IfErr result (IsMarkupFault role text.now) }
+    ensures fault { IfErr result (λ e. IfSome (reading_fault e) (IsMarkupFault role text.now)) }
 {
     let front = match read_front(alloc, text, role) {
         Ok(front) => front,
@@ -67,7 +67,7 @@ fn read_text_as(alloc: Global, text: &str, role: FileRole) -> Result<Items<Src>,
     requires fits { length text.now < 2 ^ 32 }
     ensures value { IfOk result (λ items. IsOrdered (role_of role) (items_in text.now items) × (source_text (items_in text.now items) ≡ text.now)) }
     ensures place { IfOk result (λ items. AreInPlace text.now 0 (marks_of items) (length text.now)) }
-    ensures fault { IfErr result (IsTextFault role text.now) }
+    ensures fault { IfErr result (λ e. IfSome (reading_fault e) (IsTextFault role text.now)) }
 {
     match role {
         FileRole::Document => read_markup(alloc, text, MarkupRole::Document),

@@ -1,6 +1,6 @@
 //! What stands in front of a body: a byte order mark and a declaration.
 
-ghost use Rattle.std.specs.Prelude.{◌≡◌, ◌<◌, ◌≤◌, ◌^◌, ℕ, List, length, drop, nat_eq, IfOk, IfErr, MatchOption, if◌then◌else◌};
+ghost use Rattle.std.specs.Prelude.{◌≡◌, ◌<◌, ◌≤◌, ◌^◌, ℕ, List, length, drop, nat_eq, IfOk, IfErr, MatchOption, if◌then◌else◌, IfSome};
 ghost use Rattle.std.specs.List.{starts_with};
 ghost use Rattle.std.specs.Str.{IsCharBoundary};
 ghost use Rattle.xt_spec.specs.Reading.{mark};
@@ -9,8 +9,10 @@ ghost use Rattle.xt_tree.specs.Meaning.{at_span, items_in};
 ghost use Rattle.xt_tree.specs.Places.{marks_of, AreInPlace};
 ghost use Rattle.xt_read.specs.Progress.{body_of};
 ghost use Rattle.xt_spec.specs.Front.{NoDeclared, IsForeign};
-ghost use Rattle.xt_read.specs.Front.{form_of, body_for, IsFront};
-ghost use Rattle.xt_read.specs.FrontSteps.{IsDeclarationAt, IsFrontFault, NoDeclarationAt, IsDeclaredAt, front_items, front_marks, front_len};
+ghost use Rattle.xt_spec.specs.FirstFault.{HasBodyAt};
+ghost use Rattle.xt_read.specs.Front.{form_of, body_for, gaps_to};
+ghost use Rattle.xt_read.specs.Faults.{reading_fault, IsMarkupFault};
+ghost use Rattle.xt_read.specs.FrontSteps.{IsDeclarationAt, NoDeclarationAt, IsDeclaredAt, front_items, front_marks, front_len};
 
 use crate::stage::Body;
 use crate::unread::Unread;
@@ -153,11 +155,12 @@ fn front_len(mark: usize, declared: Option<Span>) -> usize
 /// What stands in front of a body.
 pub(crate) fn read_front(alloc: Global, text: &str, role: MarkupRole) -> Result<Front, Unread>
     requires fits { length text.now < 2 ^ 32 }
-    ensures value { IfOk result (λ front. IsFront role text.now (items_in text.now front.gaps) front.to) }
+    ensures value { IfOk result (λ front. items_in text.now front.gaps ≡ gaps_to text.now front.to) }
+    ensures opens { IfOk result (λ front. HasBodyAt (form_of role) text.now front.to) }
     ensures place { IfOk result (λ front. AreInPlace text.now 0 (marks_of front.gaps) front.to) }
     ensures within { IfOk result (λ front. front.to ≤ length text.now) }
     ensures cut { IfOk result (λ front. IsCharBoundary text.now front.to) }
-    ensures fault { IfErr result (IsFrontFault role text.now) }
+    ensures fault { IfErr result (λ e. IfSome (reading_fault e) (IsMarkupFault role text.now)) }
 {
     let mark = mark_len(text);
     let declared = match declared_at(text, mark, role) {

@@ -1,12 +1,12 @@
 //! The items of a text, read token by token.
 
-ghost use Rattle.std.specs.Prelude.{◌≡◌, ◌<◌, ◌≤◌, ◌^◌, [], length, drop, IfOk, IfErr};
+ghost use Rattle.std.specs.Prelude.{◌≡◌, ◌<◌, ◌≤◌, ◌^◌, [], length, drop, IfOk, IfErr, IfSome};
 ghost use Rattle.std.specs.Str.{IsCharBoundary};
 ghost use Rattle.xt_tree.specs.Meaning.{items_in};
 ghost use Rattle.xt_tree.specs.Places.{marks_of, AreInPlace};
 ghost use Rattle.xt_read.specs.Progress.{body_of, state_of, all_marks};
-ghost use Rattle.xt_read.specs.Run.{begin, IsRead};
-ghost use Rattle.xt_read.specs.Faults.{Passes, IsBodyFault};
+ghost use Rattle.xt_read.specs.Run.{begin, Passes, IsRead};
+ghost use Rattle.xt_read.specs.Faults.{reading_fault, IsBodyFault};
 
 use crate::reader::Reader;
 use crate::stage::Body;
@@ -22,7 +22,7 @@ fn read_tokens(alloc: Global, text: &str, from: usize, body: Body) -> Result<Rea
     requires fits { length text.now < 2 ^ 32 }
     ensures value { IfOk result (λ reader. Passes (begin (body_of body)) (drop from text.now) (state_of text.now reader) []) }
     ensures place { IfOk result (λ reader. AreInPlace text.now from (all_marks reader) (length text.now)) }
-    ensures fault { IfErr result (IsBodyFault (body_of body) text.now from) }
+    ensures fault { IfErr result (λ e. IfSome (reading_fault e) (IsBodyFault (body_of body) text.now from)) }
 {
     let mut reader = Reader::new(alloc, body);
     let mut at = from;
@@ -47,7 +47,7 @@ pub(crate) fn read_body(
     requires fits { length text.now < 2 ^ 32 }
     ensures value { IfOk result (λ items. IsRead (body_of body) (drop from text.now) (items_in text.now items)) }
     ensures place { IfOk result (λ items. AreInPlace text.now from (marks_of items) (length text.now)) }
-    ensures fault { IfErr result (IsBodyFault (body_of body) text.now from) }
+    ensures fault { IfErr result (λ e. IfSome (reading_fault e) (IsBodyFault (body_of body) text.now from)) }
 {
     let mut reader = match read_tokens(alloc, text, from, body) {
         Ok(reader) => reader,

@@ -1,12 +1,12 @@
 //! A file that is included as a text: characters alone, behind a byte order mark.
 
-ghost use Rattle.std.specs.Prelude.{◌≡◌, ◌<◌, ◌≤◌, ◌^◌, ℕ, List, length, IfOk, IfErr};
+ghost use Rattle.std.specs.Prelude.{◌≡◌, ◌<◌, ◌≤◌, ◌^◌, ℕ, List, length, IfOk, IfErr, IfSome};
 ghost use Rattle.xt_spec.specs.Tree.{source_text};
 ghost use Rattle.xt_spec.specs.Reading.{plain_text, IsOrdered};
 ghost use Rattle.xt_tree.specs.Meaning.{items_in};
 ghost use Rattle.xt_tree.specs.Places.{marks_of, AreInPlace};
 ghost use Rattle.xt_read.specs.FrontSteps.{one_text_items, one_text_marks};
-ghost use Rattle.xt_read.specs.Faults.{IsPlainFault};
+ghost use Rattle.xt_read.specs.Faults.{reading_fault, IsPlainFault};
 
 use crate::front::mark_len;
 use crate::unread::Unread;
@@ -43,7 +43,7 @@ pub(crate) fn read_one_text(alloc: Global, text: &str) -> Result<Items<Src>, Unr
     requires fits { length text.now < 2 ^ 32 }
     ensures value { IfOk result (λ items. IsOrdered plain_text (items_in text.now items) × (source_text (items_in text.now items) ≡ text.now)) }
     ensures place { IfOk result (λ items. AreInPlace text.now 0 (marks_of items) (length text.now)) }
-    ensures fault { IfErr result (IsPlainFault text.now) }
+    ensures fault { IfErr result (λ e. IfSome (reading_fault e) (IsPlainFault text.now)) }
 {
     let mark = mark_len(text);
     let at = mark + chars_len(&text[mark..]);

@@ -403,10 +403,10 @@ holds_no_two_dashes (inner, are, lacking, spelled) =
 
 holds_a_bracket : IsCDataSection (codes "<![CDATA[a]]]>")
 unfolding encode
-holds_a_bracket = (codes "a]", (codes "a]", refl, refl), refl, refl)
+holds_a_bracket = (codes "a]", ((codes "a]", refl, refl), refl, refl))
 
 ends_at_the_first_close : IsCDataSection (codes "<![CDATA[]]>a]]>") → ⊥
-ends_at_the_first_close (inner, are, lacking, spelled) =
+ends_at_the_first_close (inner, (are, lacking, spelled)) =
     let is : inner ≡ codes "]]>a" = sym (append_cancel_right (codes "]]>a") inner (codes "]]>") (ap (drop 9) spelled)) in
     let wrong : false ≡ true = subst (λ t. lacks (codes "]]>") t ≡ true) is lacking in
     absurd (cc)

@@ -35,7 +35,7 @@ IsSectionOf text inner = AreChars inner × IsTrue (lacks (codes "]]>") inner) ×
 
 -- [18] CDSect
 abbrev pub IsCDataSection : List ℕ → Type 0
-IsCDataSection text = (inner : List ℕ) × AreChars inner × IsTrue (lacks (codes "]]>") inner) × (text ≡ codes "<![CDATA[" ++ inner ++ codes "]]>")
+IsCDataSection text = (inner : List ℕ) × IsSectionOf text inner
 
 -- [15] Comment of these characters, as written
 abbrev pub IsCommentOf : List ℕ → List ℕ → Type 0

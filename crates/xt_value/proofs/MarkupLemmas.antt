@@ -7,7 +7,7 @@ use Rattle.xt_spec.specs.Name.{IsNCName}
 use Rattle.xt_spec.specs.Tag.{IsBlank}
 use Rattle.xt_spec.specs.Content.{IsPiOf, begins_blank}
 use Rattle.xt_lex.specs.NameTest.{is_name_byte}
-use Rattle.xt_lex.specs.Scan.{drop_while}
+use Rattle.xt_scan.specs.Step.{drop_while}
 use Rattle.xt_lex.proofs.Theorems.{ncname_passes, drop_while_append, space_no_name}
 use Rattle.xt_value.specs.Parts.{lacks_all, Stops, IsCut}
 use Rattle.xt_value.proofs.Searches.{cut_unique}

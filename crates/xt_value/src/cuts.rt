@@ -2,7 +2,8 @@
 ghost use Rattle.std.specs.Prelude.{◌≡◌, ◌≢◌, ◌<◌, ◌≤◌, List, ℕ, [], ◌∷◌, ◌++◌, length, true, codes, option_map, Some, IfSome, MatchOption};
 ghost use Rattle.std.specs.List.{position_or_len, prefix_len};
 ghost use Rattle.memchr.specs.Find.{is_byte, is_byte2, is_byte3};
-ghost use Rattle.xt_lex.specs.Scan.{drop_while, cut};
+ghost use Rattle.xt_lex.specs.Scan.{cut};
+ghost use Rattle.xt_scan.specs.Step.{drop_while};
 ghost use Rattle.xt_spec.specs.Char.{is_space};
 ghost use Rattle.xt_spec.specs.Markup.{IsSectionOf};
 ghost use Rattle.std.specs.Option.{option_copied};

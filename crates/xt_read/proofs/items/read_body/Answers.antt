@@ -1,14 +1,11 @@
 use Rattle.xt_read.specs.Progress.{body_of, state_of}
-use Rattle.xt_read.proofs.Whole.{ends_early, is_read, out_of_memory}
+use Rattle.xt_read.proofs.Whole.{ends_early, is_read}
 use Rattle.xt_read.proofs.items.read_body.Goals as goal
 
 pub returns-then-not-is_whole-clause-fault : goal.returns-then-not-is_whole-clause-fault
 returns-then-not-is_whole-clause-fault c =
     let text = c.args.text.now in
     ends_early (body_of c.args.body) text c.args.from (state_of text c.in-Ok.reader) c.requires.within c.in-Ok.ensures.value (λ whole. let it = (c.is_whole.ensures.value text).1 whole in let but = c.if-not-is_whole.true in cc)
-
-pub returns-in-Err-settle-clause-fault : goal.returns-in-Err-settle-clause-fault
-returns-in-Err-settle-clause-fault c = out_of_memory (body_of c.args.body) c.args.text.now c.args.from c.requires.within
 
 pub returns-in-Ok-settle-clause-value : goal.returns-in-Ok-settle-clause-value
 returns-in-Ok-settle-clause-value c =

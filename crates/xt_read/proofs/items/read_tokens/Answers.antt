@@ -1,9 +1,9 @@
 use Rattle.std.proofs.Common.{List, refl, sym, subst, arith, drop}
 use Rattle.xt_tree.specs.Places.{Mark, AreInPlace}
 use Rattle.xt_read.specs.Progress.{body_of, state_of}
-use Rattle.xt_read.specs.Run.{State, begin}
-use Rattle.xt_read.specs.Faults.{Passes, here}
-use Rattle.xt_read.proofs.Runs.{goes_on, ends_here}
+use Rattle.xt_read.specs.Run.{State, begin, Passes, here}
+use Rattle.xt_read.specs.Faults.{reading_fault}
+use Rattle.xt_read.proofs.Runs.{IfSome-weaker, goes_on, ends_here}
 use Rattle.xt_read.proofs.items.read_tokens.Goals as goal
 
 pub loop-at-init : goal.loop-at-init
@@ -20,14 +20,14 @@ loop-at-init c =
     }
 
 pub returns-in-Err-clause-fault : goal.returns-in-Err-clause-fault
-returns-in-Err-clause-fault c = record {
+returns-in-Err-clause-fault c = IfSome-weaker (reading_fault c.in-Err.unread) _ _ (λ f halts. record {
   at = c.loop-at.at;
   order = c.loop-at.invariant.order;
   within = c.loop-at.invariant.within;
   state = state_of c.args.text.now c.loop-at.reader;
   passes = c.loop-at.invariant.passes;
-  halts = c.in-Err.ensures.fault;
-}
+  halts = halts;
+}) c.in-Err.ensures.fault
 
 pub loop-at-preserved : goal.loop-at-preserved
 loop-at-preserved c =

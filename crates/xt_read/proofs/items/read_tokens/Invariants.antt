@@ -2,8 +2,7 @@ use Rattle.std.proofs.Common.{◌-◌, ◌≤◌, length, drop}
 use Rattle.std.specs.Str.{IsCharBoundary}
 use Rattle.xt_tree.specs.Places.{AreInPlace}
 use Rattle.xt_read.specs.Progress.{body_of, state_of, all_marks}
-use Rattle.xt_read.specs.Run.{begin}
-use Rattle.xt_read.specs.Faults.{Passes}
+use Rattle.xt_read.specs.Run.{begin, Passes}
 use Rattle.xt_read.proofs.items.read_tokens.Given as goal
 
 -- What stands before here was read.
