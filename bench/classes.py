@@ -125,6 +125,29 @@ def cdata(size):
     return filled("<listings>\r\n", listing, "</listings>\r\n", size)
 
 
+def manual(size):
+    """A manual as people indent it: white space between all elements, and references in most sentences."""
+    rng = random.Random(7)
+    references = ("&lt;", "&amp;", "&gt;", "&quot;", "&#160;", "&#x2014;")
+
+    def step(number):
+        words = " ".join(rng.choice(references) if rng.random() < 0.2 else rng.choice(WORDS) for _ in range(9))
+        return f"\n      <step n=\"{number}\">\n        <p>\n          {words}\n        </p>\n        <note/>\n      </step>"
+
+    return filled("<manual>\n  <part>\n    <steps>", step, "\n    </steps>\n  </part>\n</manual>\n", size)
+
+
+def line(size):
+    """One text without a line end."""
+    rng = random.Random(8)
+    return filled("<t>", lambda number: " ".join(rng.choice(WORDS) for _ in range(12)) + " ", "</t>", size)
+
+
+def short(size):
+    """Elements of one letter within each other, without texts."""
+    return filled("<s>", lambda number: "<a>" * 127 + "</a>" * 127, "</s>\n", size)
+
+
 CLASSES = {
     "book": book,
     "deep": deep,
@@ -135,4 +158,7 @@ CLASSES = {
     "comments": comments,
     "cdata": cdata,
     "wide": wide,
+    "manual": manual,
+    "line": line,
+    "short": short,
 }

@@ -138,26 +138,26 @@ def place_of_text(text):
 
 
 def save_times(folder, program, size, repeats):
-    """Times of one edit with a burst of a book of so many bytes, of the plain writes and syncs of a save, and of xmlstarlet."""
+    """Times of one edit with and without a burst of a book of so many bytes, of the plain writes and syncs of a save, and of xmlstarlet."""
     old = CLASSES["book"](size)
     place, path = place_of_text(old.decode())
     reply, new = documents.edited(old.decode(), place, 0, 1, "Z")
     model.want("the model's reply", reply, "ok")
-    script = ("text " + "".join(f"/{number}" for number in place) + " 0 1 \"Z\"\nburst\n").encode()
+    edit = ("text " + "".join(f"/{number}" for number in place) + " 0 1 \"Z\"\n").encode()
+    scripts = {"save": edit + b"burst\n", "edit": edit}
     value = documents.value_of(new[slice(*span_at(new, place))])
     journal = model.journal_of([(ROOT.encode(), new.encode())])
-    commands = {"save": [program, ROOT], "open": [program, ROOT]}
+    commands = {name: [program, ROOT] for name in ("save", "edit", "open")}
     if shutil.which("xmlstarlet"):
         commands["xmlstarlet"] = ["xmlstarlet", "ed", "-P", "-L", "-u", path, "-v", value, ROOT]
     times = {name: [] for name in (*commands, "plain")}
     for _ in range(repeats):
         for name, command in commands.items():
             settled(folder, {ROOT.encode(): old})
-            times[name].append(run(command, folder, script if name == "save" else b""))
+            times[name].append(run(command, folder, scripts.get(name, b"")))
             if name == "save":
                 model.want("the file after a burst", model.files_in(folder)[ROOT.encode()], new.encode())
         settled(folder, {ROOT.encode(): old})
-
         times["plain"].append((waited(lambda: plain_save(folder, journal, [(ROOT, new.encode())])), 0.0))
     return {name: tuple(statistics.median(column) for column in zip(*found)) for name, found in times.items()}
 
@@ -202,17 +202,18 @@ def page(recoveries, small, save, repeats, load, folder):
         "",
         "## One edit and a save of a book of 4 MiB",
         "",
-        "\"Save\" is a run with the script `text ..` and `burst`: it reads, edits, writes journal, gate and file with their syncs, and prints the tree. \"Open\" is the same run without a script. "
+        "\"Save\" is a run with the script `text ..` and `burst`: it reads, edits, writes journal, gate and file with their syncs, and prints the tree. \"Edit\" is the same run without the `burst`, \"open\" without a script. "
         f"\"Plain\" writes and syncs the journal, the marker and, beside the old one and with a rename, the file, each with its folder, and removes the marker. xmlstarlet: {version_of_xmlstarlet()}; it makes the same edit (`ed -P -L -u PATH -v VALUE`), and syncs nothing.",
         "",
         "| Run | Wall-clock time | Processor time |",
         "|---|---|---|",
     ]
     lines += [f"| {name} | {ms(wall)} | {ms(processor) if processor else '-'} |" for name, (wall, processor) in save.items()]
-    over = save["save"][0] - save["open"][0]
-    lines += ["", f"Save without open, to plain: {over / save['plain'][0]:.2f} (wall-clock time)."]
-    less = small["save"][0] - small["open"][0]
-    lines.append(f"The same of a book of 4 KiB: {ms(small['save'][0])}, open {ms(small['open'][0])}, plain {ms(small['plain'][0])}; save without open, to plain: {less / small['plain'][0]:.2f} (aim {AIM}).")
+    lines.append("")
+    for name, times in (("4 MiB", save), ("4 KiB", small)):
+        over, plain = times["save"][0] - times["edit"][0], times["plain"][0]
+        lines.append(f"What a `burst` adds to a run over a book of {name} (save without edit): {ms(over)}, plain {ms(plain)}; to plain: {over / plain:.2f} (aim {AIM}).")
+    lines.append(f"The edit of the book of 4 MiB (edit without open): {ms(save['edit'][0] - save['open'][0])}.")
     if "xmlstarlet" in save:
         lines.append(f"Save to xmlstarlet: {save['save'][0] / save['xmlstarlet'][0]:.2f} of the wall-clock time, {save['save'][1] / save['xmlstarlet'][1]:.2f} of the processor time.")
     return "\n".join(lines) + "\n"

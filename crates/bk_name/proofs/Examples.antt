@@ -50,9 +50,9 @@ no_half_character = refl
 
 -- ---- bases and URIs of files
 
-folder : is_base (codes "file:///book/") ≡ true
+pub book_folder : is_base (codes "file:///book/") ≡ true
 unfolding is_base url_on_literals percent_encoding_on_literals
-folder = refl
+book_folder = refl
 
 no_folder : is_base (codes "file:///book") ≡ false
 unfolding is_base url_on_literals percent_encoding_on_literals

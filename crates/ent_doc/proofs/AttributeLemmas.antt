@@ -9,7 +9,6 @@ use Rattle.bk_spec.specs.Fault.{Fault}
 use Rattle.bk_spec.specs.DocumentNodes.{and_then, named, attr_of, attrs_of, value_at}
 use Rattle.bk_info.specs.declared.attr.Attr.{Attr}
 use Rattle.bk_info.specs.Nodes.{attr_in, attrs_in}
-use Rattle.ent_doc.specs.declared.fault.OpenFault.{OpenFault}
 use Rattle.ent_doc.specs.Steps.{Fails, IsAttrOf, attr_value}
 use Rattle.ent_doc.proofs.FaultLemmas.{fails_then, fails_as}
 
@@ -51,7 +50,7 @@ attrs_more file scope values rest left a attrs joined attr next is (name, named_
     ∙ joined_attrs attrs attr (attr_of a name) (attrs_of file scope rest) attr_is
     ∙ ap (λ (l : List Attr). and_then (λ (more : List spec.Attr). Ok (attrs_in l ++ more)) (attrs_of file scope rest)) (sym same)
 
-pub attrs_fail : (file : List ℕ) (scope : List Binding) (values rest left : List NamedValue) (a : NamedValue) (attrs : List Attr) (fault : OpenFault) → left ≡ a ∷ rest → is_declaration a.name ≡ false → Fails (named file scope true a.name) fault
+pub attrs_fail : (file : List ℕ) (scope : List Binding) (values rest left : List NamedValue) (a : NamedValue) (attrs : List Attr) (fault : Option Fault) → left ≡ a ∷ rest → is_declaration a.name ≡ false → Fails (named file scope true a.name) fault
     → AttrsTo file scope values left attrs → Fails (attrs_of file scope values) fault
 attrs_fail file scope values rest left a attrs fault next is fails so_far =
     fails_as _ _ fault so_far

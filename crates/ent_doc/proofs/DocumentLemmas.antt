@@ -1,5 +1,5 @@
 -- What a whole document gives.
-use Rattle.std.proofs.Common.{◌≡◌, ℕ, List, subst, Ok, IfSome}
+use Rattle.std.proofs.Common.{◌≡◌, ℕ, List, subst, Ok, IfSome, Option, Some, None}
 use Rattle.xt_spec.specs.Content.{Content, HasContent}
 use Rattle.xt_spec.specs.Tree.{Items, nil}
 use Rattle.xt_tree.specs.declared.source.Src.{Src}
@@ -8,10 +8,8 @@ use Rattle.bk_spec.specs.DocumentNodes.{Context, nodes_of}
 use Rattle.bk_spec.specs.Opening.{top_context}
 use Rattle.bk_info.specs.declared.node.Node.{Node}
 use Rattle.bk_info.specs.Nodes.{nodes_in}
-use Rattle.ent_doc.specs.declared.fault.OpenFault.{OpenFault}
-use Rattle.ent_doc.specs.declared.fault.OpenFault.TheVariants.{Book, NoMemory}
 use Rattle.ent_doc.specs.Faults.{IsNodesFault}
-use Rattle.ent_doc.specs.Opening.{open_fault}
+use Rattle.bk_spec.specs.Fault.{Fault}
 use Rattle.ent_doc.specs.Steps.{Gives, GivesFault}
 use Rattle.ent_doc.proofs.ElementLemmas.{gives_all}
 
@@ -25,11 +23,11 @@ document_gives file text items context n m nodes top none gives =
     gives_all file (top_context file) (items_in text items) 0 m nodes
     (moved (λ (x : Context) (k : ℕ). Gives file x (items_in text items) nil k m nodes) file context n top none gives)
 
-is_fault : (file : List ℕ) (items : Items) (fault : OpenFault) → GivesFault file (top_context file) items 0 fault → IfSome (open_fault fault) (IsNodesFault file items)
-is_fault file items (Book fault) gives = gives
-is_fault file items NoMemory gives = tt
+is_fault : (file : List ℕ) (items : Items) (fault : Option Fault) → GivesFault file (top_context file) items 0 fault → IfSome fault (IsNodesFault file items)
+is_fault file items (Some fault) gives = gives
+is_fault file items None gives = tt
 
-pub document_fails : (file text : List ℕ) (items : List Src) (context : Context) (n : ℕ) (fault : OpenFault) → context ≡ top_context file → n ≡ 0 → GivesFault file context (items_in text items) n fault
-    → IfSome (open_fault fault) (IsNodesFault file (items_in text items))
+pub document_fails : (file text : List ℕ) (items : List Src) (context : Context) (n : ℕ) (fault : Option Fault) → context ≡ top_context file → n ≡ 0 → GivesFault file context (items_in text items) n fault
+    → IfSome fault (IsNodesFault file (items_in text items))
 document_fails file text items context n fault top none gives =
     is_fault file (items_in text items) fault (moved (λ (x : Context) (k : ℕ). GivesFault file x (items_in text items) k fault) file context n top none gives)

@@ -12,7 +12,6 @@ use Rattle.bk_spec.specs.Fault.{Fault}
 use Rattle.bk_spec.specs.DocumentNodes.{Context, Element, and_then, element_of, with_room, nodes_of}
 use Rattle.bk_info.specs.declared.node.Node.{Node}
 use Rattle.bk_info.specs.Nodes.{node_in, nodes_in}
-use Rattle.ent_doc.specs.declared.fault.OpenFault.{OpenFault}
 use Rattle.ent_doc.specs.Steps.{Fails, prepended, Gives, GivesFault, attribute_at, AreTagsInPlace}
 use Rattle.ent_doc.proofs.FaultLemmas.{fails_then, fails_as}
 use Rattle.ent_doc.proofs.LeafLemmas.{one_prepended}
@@ -63,21 +62,21 @@ element_gives bytes file context tag kids rest close n k m qname sources values 
     )
 
 -- .. its own fault, the fault that there is no room, and one of what it holds
-pub own_fails : (bytes file : List ℕ) (context : Context) (tag : TagSrc) (kids rest : Items) (close : Option (List ℕ)) (n : ℕ) (qname : List ℕ) (sources : List AttrSrc) (values : List NamedValue) (fault : OpenFault)
+pub own_fails : (bytes file : List ℕ) (context : Context) (tag : TagSrc) (kids rest : Items) (close : Option (List ℕ)) (n : ℕ) (qname : List ℕ) (sources : List AttrSrc) (values : List NamedValue) (fault : Option Fault)
     → AreTagsInPlace bytes (tag_mark tag ∷ []) → qname ≡ at_span bytes tag.name → sources ≡ tag.attrs → AreRead bytes sources values
     → Fails (element_of file context qname values) fault → GivesFault file context (element (at_span bytes tag.span) kids close rest) n fault
 own_fails bytes file context tag kids rest close n qname sources values fault stands name attrs read fails content has =
     let (inside, others, has_inside, has_others, is) = read_content bytes tag kids rest close qname sources values content stands name attrs read has in
     fails_as _ _ fault (ap (nodes_of file context n) is) (fails_then (behind_own file context n inside others) (element_of file context qname values) fault fails)
 
-pub room_fails : (bytes file : List ℕ) (context : Context) (tag : TagSrc) (kids rest : Items) (close : Option (List ℕ)) (n : ℕ) (qname : List ℕ) (sources : List AttrSrc) (values : List NamedValue) (e : Element) (fault : OpenFault)
+pub room_fails : (bytes file : List ℕ) (context : Context) (tag : TagSrc) (kids rest : Items) (close : Option (List ℕ)) (n : ℕ) (qname : List ℕ) (sources : List AttrSrc) (values : List NamedValue) (e : Element) (fault : Option Fault)
     → AreTagsInPlace bytes (tag_mark tag ∷ []) → qname ≡ at_span bytes tag.name → sources ≡ tag.attrs → AreRead bytes sources values
     → element_of file context qname values ≡ Ok e → ((others : Result Nodes Fault) → Fails (with_room file n others) fault) → GivesFault file context (element (at_span bytes tag.span) kids close rest) n fault
 room_fails bytes file context tag kids rest close n qname sources values e fault stands name attrs read own fails content has =
     let (inside, others, has_inside, has_others, is) = read_content bytes tag kids rest close qname sources values content stands name attrs read has in
     fails_as _ _ fault (own_read file context n qname values inside others content e is own) (fails _)
 
-pub kids_fail : (bytes file : List ℕ) (context : Context) (tag : TagSrc) (kids rest : Items) (close : Option (List ℕ)) (n k : ℕ) (qname : List ℕ) (sources : List AttrSrc) (values : List NamedValue) (e : Element) (fault : OpenFault)
+pub kids_fail : (bytes file : List ℕ) (context : Context) (tag : TagSrc) (kids rest : Items) (close : Option (List ℕ)) (n k : ℕ) (qname : List ℕ) (sources : List AttrSrc) (values : List NamedValue) (e : Element) (fault : Option Fault)
     → AreTagsInPlace bytes (tag_mark tag ∷ []) → qname ≡ at_span bytes tag.name → sources ≡ tag.attrs → AreRead bytes sources values
     → element_of file context qname values ≡ Ok e → ((others : Result Nodes Fault) → with_room file n others ≡ others) → k ≡ suc n → GivesFault file e.context kids k fault
     → GivesFault file context (element (at_span bytes tag.span) kids close rest) n fault

@@ -16,7 +16,6 @@ use Rattle.bk_spec.specs.Fault.{Fault}
 use Rattle.bk_spec.specs.DocumentNodes.{Context, nodes_of}
 use Rattle.bk_info.specs.declared.node.Node.{Node}
 use Rattle.bk_info.specs.Nodes.{nodes_in, nodes_before}
-use Rattle.ent_doc.specs.declared.fault.OpenFault.{OpenFault}
 use Rattle.ent_doc.specs.Steps.{prepended, Gives, GivesFault, AreTagsInPlace}
 use Rattle.ent_doc.proofs.FaultLemmas.{fails_then, fails_as}
 use Rattle.ent_doc.proofs.NodeLemmas.{prepended_twice, count_twice}
@@ -107,7 +106,7 @@ items_step bytes file context items i x n k m nodes more joined below is same so
     let (behind, has_behind, gives_more) = next (items_in bytes (drop (i + 1) items)) others (subst (λ (l : List Src). HasContent (items_in bytes l) others) (next_items items i x below is) has_others) in
     (behind, has_behind, gives ∙ ap (λ (r : Result Nodes Fault). prepended nodes r) gives_more ∙ prepended_twice nodes more (nodes_of file context m behind) ∙ ap (λ (l : List Node). prepended l (nodes_of file context m behind)) (sym same))
 
-pub items_fail : (bytes file : List ℕ) (context : Context) (items : List Src) (i : ℕ) (x : Src) (n k : ℕ) (nodes : List Node) (fault : OpenFault) → i < length items → x ≡ get_or items i x
+pub items_fail : (bytes file : List ℕ) (context : Context) (items : List Src) (i : ℕ) (x : Src) (n k : ℕ) (nodes : List Node) (fault : Option Fault) → i < length items → x ≡ get_or items i x
     → Gives file context (items_in bytes items) (items_in bytes (drop i items)) n k nodes → ((rest : Items) → GivesFault file context (before (item_of bytes x) rest) k fault)
     → GivesFault file context (items_in bytes items) n fault
 items_fail bytes file context items i x n k nodes fault below is so_far next content has =

@@ -1,6 +1,6 @@
 -- What a leaf gives, whatever stands behind it.
 use Rattle.std.proofs.lemmas.List.{nil_from_length}
-use Rattle.std.proofs.Common.{length, ◌≡◌, ◌≢◌, ◌∙◌, ℕ, suc, List, [], ◌∷◌, refl, sym, ap, Result, Ok, Err}
+use Rattle.std.proofs.Common.{length, ◌≡◌, ◌≢◌, ◌∙◌, ℕ, suc, List, [], ◌∷◌, refl, sym, ap, Result, Ok, Err, Option}
 use Rattle.xt_spec.specs.Content.{Content, text_content, pi_content, IsPiOf}
 use Rattle.xt_spec.specs.LineEnds.{lines_read}
 use Rattle.xt_spec.specs.Reading.{document}
@@ -13,7 +13,6 @@ use Rattle.bk_info.specs.Address.{Address}
 use Rattle.bk_info.specs.declared.node.Node.{Node}
 use Rattle.bk_info.specs.declared.node.Node.TheVariants as code
 use Rattle.bk_info.specs.Nodes.{node_in}
-use Rattle.ent_doc.specs.declared.fault.OpenFault.{OpenFault}
 use Rattle.ent_doc.specs.Steps.{Fails, prepended, Gives, GivesFault}
 use Rattle.ent_doc.proofs.FaultLemmas.{fails_as}
 use Rattle.bk_info.proofs.Theorems.{text_is, pi_is}
@@ -57,12 +56,12 @@ pub void_gives : (file text : List ℕ) (context : Context) (rest : Items) (n : 
 void_gives file text context rest n value exact none content (other, others, has, gives, is) =
     (others, gives, ap (nodes_of file context n) (is ∙ ap (λ (v : List ℕ). text_content v others) (exact other has ∙ none)) ∙ sym (none_prepended (nodes_of file context n others)))
 
-pub text_fails : (file text : List ℕ) (context : Context) (rest : Items) (n : ℕ) (value : List ℕ) (fault : OpenFault) → ((other : List ℕ) → HasTextValue text other → other ≡ value) → value ≢ []
+pub text_fails : (file text : List ℕ) (context : Context) (rest : Items) (n : ℕ) (value : List ℕ) (fault : Option Fault) → ((other : List ℕ) → HasTextValue text other → other ≡ value) → value ≢ []
     → ((others : Result Nodes Fault) → Fails (with_room file n others) fault) → GivesFault file context (leaf text_item text rest) n fault
 text_fails file text context rest n value fault exact some room content (other, others, has, gives, is) =
     fails_as _ _ fault (ap (nodes_of file context n) (is ∙ ap (λ (v : List ℕ). text_content v others) (exact other has)) ∙ text_room file context n value others some) (room _)
 
-pub comment_fails : (file text : List ℕ) (context : Context) (rest : Items) (n : ℕ) (fault : OpenFault)
+pub comment_fails : (file text : List ℕ) (context : Context) (rest : Items) (n : ℕ) (fault : Option Fault)
     → ((others : Result Nodes Fault) → Fails (with_room file n others) fault) → GivesFault file context (leaf comment_item text rest) n fault
 comment_fails file text context rest n fault room content (inner, others, is_comment, gives, is) =
     fails_as _ _ fault (ap (nodes_of file context n) is) (room _)
@@ -80,7 +79,7 @@ pi_gives file text context rest n m target value address own exact more room con
           ∙ ap (λ (k : ℕ). prepended (code.Pi target value address ∷ []) (nodes_of file context k others)) (sym more),
     )
 
-pub pi_fails : (file text : List ℕ) (context : Context) (rest : Items) (n : ℕ) (fault : OpenFault)
+pub pi_fails : (file text : List ℕ) (context : Context) (rest : Items) (n : ℕ) (fault : Option Fault)
     → ((others : Result Nodes Fault) → Fails (with_room file n others) fault) → GivesFault file context (leaf pi_item text rest) n fault
 pi_fails file text context rest n fault room content (t, i, others, is_pi, gives, is) =
     fails_as _ _ fault (ap (nodes_of file context n) is) (room _)

@@ -8,7 +8,6 @@ use Rattle.bk_spec.specs.DocumentNodes as document
 use Rattle.bk_info.specs.declared.attr.Attr.{Attr}
 use Rattle.bk_info.specs.Nodes.{attrs_in}
 use Rattle.ent_doc.specs.declared.element.Own.{Own}
-use Rattle.ent_doc.specs.declared.fault.OpenFault.{OpenFault}
 use Rattle.ent_doc.specs.Steps.{Fails, attr_value, element_in}
 use Rattle.ent_doc.proofs.AttributeLemmas.{value_is}
 use Rattle.ent_doc.proofs.FaultLemmas.{fails_then, fails_as}
@@ -37,15 +36,15 @@ attrs_next : (file : List ℕ) (context : Context) (qname : List ℕ) (values : 
     → element_of file context qname values ≡ at_attrs file context values scope name attrs
 attrs_next file context qname values scope name attrs is named_is attrs_are = named_next file context qname values scope name is named_is ∙ ap (λ (r : Result (List spec.Attr) Fault). and_then (at_attrs file context values scope name) r) attrs_are
 
-pub scope_fails : (file : List ℕ) (context : Context) (qname : List ℕ) (values : List NamedValue) (fault : OpenFault) → Fails (or_fault (bad_namespace file) (scope_of context.scope values)) fault → Fails (element_of file context qname values) fault
+pub scope_fails : (file : List ℕ) (context : Context) (qname : List ℕ) (values : List NamedValue) (fault : Option Fault) → Fails (or_fault (bad_namespace file) (scope_of context.scope values)) fault → Fails (element_of file context qname values) fault
 scope_fails file context qname values fault fails = fails_then (at_scope file context qname values) (or_fault (bad_namespace file) (scope_of context.scope values)) fault fails
 
-pub name_fails : (file : List ℕ) (context : Context) (qname : List ℕ) (values : List NamedValue) (scope inner : List Binding) (fault : OpenFault) → scope_of context.scope values ≡ Some inner → scope ≡ inner
+pub name_fails : (file : List ℕ) (context : Context) (qname : List ℕ) (values : List NamedValue) (scope inner : List Binding) (fault : Option Fault) → scope_of context.scope values ≡ Some inner → scope ≡ inner
     → Fails (named file scope false qname) fault → Fails (element_of file context qname values) fault
 name_fails file context qname values scope inner fault is same fails =
     fails_as _ _ fault (scoped file context qname values scope (is ∙ ap (λ (s : List Binding). Some s) (sym same))) (fails_then (at_name file context values scope) (named file scope false qname) fault fails)
 
-pub attrs_fail : (file : List ℕ) (context : Context) (qname : List ℕ) (values : List NamedValue) (scope inner : List Binding) (name : Expanded) (fault : OpenFault) → scope_of context.scope values ≡ Some inner → scope ≡ inner → named file scope false qname ≡ Ok name
+pub attrs_fail : (file : List ℕ) (context : Context) (qname : List ℕ) (values : List NamedValue) (scope inner : List Binding) (name : Expanded) (fault : Option Fault) → scope_of context.scope values ≡ Some inner → scope ≡ inner → named file scope false qname ≡ Ok name
     → Fails (distinct_attrs file scope values) fault → Fails (element_of file context qname values) fault
 attrs_fail file context qname values scope inner name fault is same named_is fails =
     fails_as _ _ fault (named_next file context qname values scope name (is ∙ ap (λ (s : List Binding). Some s) (sym same)) named_is) (fails_then (at_attrs file context values scope name) (distinct_attrs file scope values) fault fails)
@@ -58,7 +57,7 @@ declared_in outer scope values list declared same_scope same_values is =
 pub inner_is : (outer scope inner : List Binding) (declared : Option (List Binding)) → scope ≡ outer → inner ≡ unwrap_or declared scope → inner ≡ unwrap_or declared outer
 inner_is outer scope inner declared same is = is ∙ ap (λ (s : List Binding). unwrap_or declared s) same
 
-pub fault_of : (file outer base : List ℕ) (attrs list : List Attr) (fault : OpenFault) → base ≡ outer → list ≡ attrs → Fails (base_at file base (attr_value list (codes "xml:base"))) fault → Fails (base_at file outer (attr_value attrs (codes "xml:base"))) fault
+pub fault_of : (file outer base : List ℕ) (attrs list : List Attr) (fault : Option Fault) → base ≡ outer → list ≡ attrs → Fails (base_at file base (attr_value list (codes "xml:base"))) fault → Fails (base_at file outer (attr_value attrs (codes "xml:base"))) fault
 fault_of file outer base attrs list fault same_base same_attrs fails =
     subst (λ (l : List Attr). Fails (base_at file outer (attr_value l (codes "xml:base"))) fault) same_attrs (subst (λ (b : List ℕ). Fails (base_at file b (attr_value list (codes "xml:base"))) fault) same_base fails)
 
@@ -66,7 +65,7 @@ pub base_of : (file outer base : List ℕ) (attrs list : List Attr) (found : Opt
 base_of file outer base attrs list found same_base same_attrs is =
     subst (λ (l : List Attr). base_at file outer (attr_value l (codes "xml:base")) ≡ Ok (unwrap_or found outer)) same_attrs (subst (λ (b : List ℕ). base_at file b (attr_value list (codes "xml:base")) ≡ Ok (unwrap_or found b)) same_base is)
 
-pub base_fails : (file : List ℕ) (context : Context) (qname : List ℕ) (values : List NamedValue) (scope inner : List Binding) (name : Expanded) (attrs : List Attr) (fault : OpenFault) → scope_of context.scope values ≡ Some inner → scope ≡ inner → named file scope false qname ≡ Ok name
+pub base_fails : (file : List ℕ) (context : Context) (qname : List ℕ) (values : List NamedValue) (scope inner : List Binding) (name : Expanded) (attrs : List Attr) (fault : Option Fault) → scope_of context.scope values ≡ Some inner → scope ≡ inner → named file scope false qname ≡ Ok name
     → distinct_attrs file scope values ≡ Ok (attrs_in attrs) → attrs_of file scope values ≡ Ok (attrs_in attrs) → Fails (base_at file context.base (attr_value attrs (codes "xml:base"))) fault → Fails (element_of file context qname values) fault
 base_fails file context qname values scope inner name attrs fault is same named_is attrs_are kept fails =
     fails_as _ _ fault (attrs_next file context qname values scope name (attrs_in attrs) (is ∙ ap (λ (s : List Binding). Some s) (sym same)) named_is attrs_are)

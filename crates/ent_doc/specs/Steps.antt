@@ -1,6 +1,6 @@
 -- What the functions make, in steps: each makes what stands before a rest, and leaves the rest.
 --
---   Fails            the result is the fault that is told
+--   Fails            the result is the fault that is told, where one is
 --   prepended        nodes, and those behind them, where there was no fault
 --   Gives            the items up to a rest give these nodes
 --   GivesFault       the items have this fault
@@ -11,7 +11,7 @@
 --   are_apart        no two attributes have one expanded name
 --   attribute_at     an attribute's name and value, at their spans
 --   AreTagsInPlace   each tag stands somewhere, with its parts at their spans
-use Rattle.std.specs.Prelude.{◌≡◌, ℕ, Bool, true, not, ◌&&◌, List, [], ◌∷◌, ◌++◌, Option, None, Some, Result, Ok, Err, bytes_eq, if◌then◌else◌}
+use Rattle.std.specs.Prelude.{◌≡◌, ℕ, Bool, true, not, ◌&&◌, List, [], ◌∷◌, ◌++◌, Option, None, Some, Result, Ok, Err, IfSome, bytes_eq, if◌then◌else◌}
 use Rattle.std.specs.Borrow.{Bor}
 use Rattle.std.specs.List.{list_any}
 use Rattle.xt_spec.specs.Tree.{Items}
@@ -28,16 +28,13 @@ use Rattle.bk_spec.specs.DocumentNodes.{Context, Element, and_then, named, attr_
 use Rattle.bk_spec.specs.NodePaths.{node_paths}
 use Rattle.bk_info.specs.declared.attr.Attr.{Attr}
 use Rattle.bk_info.specs.declared.node.Node.{Node}
-use Rattle.bk_info.specs.Nodes.{attr_in, head_in, nodes_before, fault_in}
+use Rattle.bk_info.specs.Nodes.{attr_in, head_in, nodes_before}
 use Rattle.bk_info.specs.Paths.{paths_in}
-use Rattle.ent_doc.specs.declared.fault.OpenFault.{OpenFault}
-use Rattle.ent_doc.specs.declared.fault.OpenFault.TheVariants.{Book, NoMemory}
 use Rattle.ent_doc.specs.declared.element.Own.{Own}
 
--- the result is the fault that is told; want of memory may be told of any
-abbrev pub Fails : {A : Type 0} → Result A Fault → OpenFault → Type 0
-Fails result (Book fault) = result ≡ Err (fault_in fault)
-Fails result NoMemory = Unit {0}
+-- the result is the fault that is told, where one is
+abbrev pub Fails : {A : Type 0} → Result A Fault → Option Fault → Type 0
+Fails result told = IfSome told (λ (fault : Fault). result ≡ Err fault)
 
 -- the nodes, and those behind them, where there was no fault
 abbrev pub prepended : List Node → Result Nodes Fault → Result Nodes Fault
@@ -48,9 +45,9 @@ abbrev pub Gives : List ℕ → Context → Items → Items → ℕ → ℕ → 
 Gives file context items rest before behind nodes = (content : Content) → HasContent items content
     → (others : Content) × HasContent rest others × (nodes_of file context before content ≡ prepended nodes (nodes_of file context behind others))
 
--- the items have this fault, with so many nodes before them
-abbrev pub GivesFault : List ℕ → Context → Items → ℕ → OpenFault → Type 0
-GivesFault file context items before fault = (content : Content) → HasContent items content → Fails (nodes_of file context before content) fault
+-- the items have the fault that is told, with so many nodes before them
+abbrev pub GivesFault : List ℕ → Context → Items → ℕ → Option Fault → Type 0
+GivesFault file context items before told = (content : Content) → HasContent items content → Fails (nodes_of file context before content) told
 
 -- the items within the element at a path give nodes with their paths
 abbrev pub HavePaths : List ℕ → Items → List Node → Type 0

@@ -6,6 +6,7 @@ ghost use Rattle.std.specs.Option.{option_copied};
 ghost use Rattle.xt_spec.specs.Namespace as names;
 ghost use Rattle.bk_spec.specs.Fault.{bad_namespace};
 ghost use Rattle.bk_spec.specs.DocumentNodes.{or_fault, base_at};
+ghost use Rattle.ent_doc.specs.Opening.{open_fault};
 ghost use Rattle.ent_doc.specs.Steps.{Fails, attr_value};
 
 use crate::fault::OpenFault;
@@ -32,7 +33,7 @@ pub(crate) fn scope_in(
     values: &[NamedText<'_>],
 ) -> Result<Option<Scope>, OpenFault>
     ensures value { IfOk result (λ scope. names.scope_of outer.now values.now ≡ Some (unwrap_or scope outer.now)) }
-    ensures fault { IfErr result (Fails (or_fault (bad_namespace source.now.file.now) (names.scope_of outer.now values.now))) }
+    ensures fault { IfErr result (λ fault. Fails (or_fault (bad_namespace source.now.file.now) (names.scope_of outer.now values.now)) (open_fault fault)) }
 {
     if !declares(values) {
         return Ok(None);
@@ -64,7 +65,7 @@ pub(crate) fn base_in(
     attrs: &[Attr],
 ) -> Result<Option<Uri>, OpenFault>
     ensures value { IfOk result (λ base. base_at source.now.file.now outer.now (attr_value attrs.now (codes "xml:base")) ≡ Ok (unwrap_or base outer.now)) }
-    ensures fault { IfErr result (Fails (base_at source.now.file.now outer.now (attr_value attrs.now (codes "xml:base")))) }
+    ensures fault { IfErr result (λ fault. Fails (base_at source.now.file.now outer.now (attr_value attrs.now (codes "xml:base"))) (open_fault fault)) }
 {
     let Some(reference) = value_at(attrs, "xml:base") else {
         return Ok(None);

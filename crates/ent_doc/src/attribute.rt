@@ -3,6 +3,7 @@ ghost use Rattle.std.specs.Prelude.{◌≡◌, ◌++◌, ◌∷◌, [], true, Ok
 ghost use Rattle.bk_spec.specs.DocumentNodes.{named};
 ghost use Rattle.bk_spec.specs.DocumentNodes as spec;
 ghost use Rattle.bk_info.specs.Nodes.{attrs_in};
+ghost use Rattle.ent_doc.specs.Opening.{open_fault};
 ghost use Rattle.ent_doc.specs.Steps.{Fails, IsAttrOf};
 
 use crate::distinct::are_distinct;
@@ -23,7 +24,7 @@ fn attr_of(
     value: NamedText<'_>,
 ) -> Result<Attr, OpenFault>
     ensures value { IfOk result (IsAttrOf source.now.file.now scope.now value.entry) }
-    ensures fault { IfErr result (Fails (named source.now.file.now scope.now true value.entry.name)) }
+    ensures fault { IfErr result (λ fault. Fails (named source.now.file.now scope.now true value.entry.name) (open_fault fault)) }
 {
     let written = value.name();
     match expand_name(scope, written, true) {
@@ -56,7 +57,7 @@ fn attrs_of(
     values: Vec<NamedText<'_>>,
 ) -> Result<Vec<Attr>, OpenFault>
     ensures value { IfOk result (λ attrs. spec.attrs_of source.now.file.now scope.now values.entry.items ≡ Ok (attrs_in attrs.items)) }
-    ensures fault { IfErr result (Fails (spec.attrs_of source.now.file.now scope.now values.entry.items)) }
+    ensures fault { IfErr result (λ fault. Fails (spec.attrs_of source.now.file.now scope.now values.entry.items) (open_fault fault)) }
 {
     let mut attrs = Vec::with_capacity(alloc, values.len())?;
     for value in values {
@@ -77,7 +78,7 @@ pub(crate) fn distinct_attrs(
 ) -> Result<Vec<Attr>, OpenFault>
     ensures value { IfOk result (λ attrs. spec.distinct_attrs source.now.file.now scope.now values.entry.items ≡ Ok (attrs_in attrs.items)) }
     ensures kept { IfOk result (λ attrs. spec.attrs_of source.now.file.now scope.now values.entry.items ≡ Ok (attrs_in attrs.items)) }
-    ensures fault { IfErr result (Fails (spec.distinct_attrs source.now.file.now scope.now values.entry.items)) }
+    ensures fault { IfErr result (λ fault. Fails (spec.distinct_attrs source.now.file.now scope.now values.entry.items) (open_fault fault)) }
 {
     let attrs = attrs_of(alloc, source, names, scope, values)?;
     if !are_distinct(alloc, attrs.as_slice())? {

@@ -17,7 +17,7 @@ use crate::source::Source;
 use crate::tree::nodes_of;
 use crate::work::Work;
 use bk_info::{Context, Node, Origin, Role, Siblings, Via};
-use bk_name::{Base, Name, uri_of};
+use bk_name::{BadBase, Base, Name, uri_of};
 use sqlite_items::Items;
 use std::alloc::{AllocError, Global};
 use xt_table::SharedText;
@@ -31,8 +31,10 @@ const BOOK_BASE: &str = "file:///book/";
 fn top(alloc: Global, file: &Name) -> Result<Context, AllocError>
     ensures value { IfOk result (λ context. context ≡ top_context file.now) }
 {
-    let Ok(base) = Base::read(alloc, BOOK_BASE) else {
-        return Err(AllocError);
+    let base = match Base::read(alloc, BOOK_BASE) {
+        Ok(base) => base,
+        Err(BadBase::NoMemory) => return Err(AllocError),
+        Err(BadBase::BadBase) => unreachable!(),
     };
     let scope = Scope::new(alloc)?;
     let uri = uri_of(alloc, &base, file)?;

@@ -1,6 +1,7 @@
 //! An element's own: its expanded name, its attributes, and the context of what it holds.
 ghost use Rattle.std.specs.Prelude.{◌≡◌, false, Ok, unwrap_or, IfOk, IfErr};
 ghost use Rattle.bk_spec.specs.DocumentNodes.{named, element_of};
+ghost use Rattle.ent_doc.specs.Opening.{open_fault};
 ghost use Rattle.ent_doc.specs.Steps.{Fails, element_in};
 
 use crate::around::{base_in, lang_in, scope_in};
@@ -40,7 +41,7 @@ fn name_of(
     qname: &str,
 ) -> Result<NodeName, OpenFault>
     ensures value { IfOk result (λ name. named source.now.file.now scope.now false qname.now ≡ Ok name) }
-    ensures fault { IfErr result (Fails (named source.now.file.now scope.now false qname.now)) }
+    ensures fault { IfErr result (λ fault. Fails (named source.now.file.now scope.now false qname.now) (open_fault fault)) }
 {
     match expand_name(scope, qname, false) {
         Ok(name) => Ok(names.name(alloc, qname, &name)?),
@@ -60,7 +61,7 @@ pub(crate) fn own_of(
     values: Vec<NamedText<'_>>,
 ) -> Result<Own, OpenFault>
     ensures value { IfOk result (λ own. element_of source.now.file.now context.now qname.now values.entry.items ≡ Ok (element_in source.now.file.now own)) }
-    ensures fault { IfErr result (Fails (element_of source.now.file.now context.now qname.now values.entry.items)) }
+    ensures fault { IfErr result (λ fault. Fails (element_of source.now.file.now context.now qname.now values.entry.items) (open_fault fault)) }
 {
     let declared = scope_in(alloc, source, context.scope(), values.as_slice())?;
     let scope = inner_or(&declared, context.scope());

@@ -8,6 +8,7 @@ ghost use Rattle.bk_spec.specs.NodePaths.{path_below};
 ghost use Rattle.bk_spec.specs.DocumentNodes.{Context};
 ghost use Rattle.bk_info.specs.Nodes.{nodes_in};
 ghost use Rattle.bk_info.specs.Vias.{HaveVia};
+ghost use Rattle.ent_doc.specs.Opening.{open_fault};
 ghost use Rattle.ent_doc.specs.Steps.{Gives, GivesFault, HasPaths, some_node};
 
 use crate::fault::OpenFault;
@@ -32,7 +33,7 @@ pub(crate) fn text_node(
     ensures count { IfOk result (λ node. work.new.count ≡ work.old.count + node_count (nodes_in (some_node node))) }
     ensures paths { IfOk result (λ node. (outer : List ℕ) (index : ℕ) (rest : Items) → address.path ≡ path_below outer index → HasPaths outer index (leaf text_item (at_span source.now.text.now span) rest) rest (suc index) (some_node node)) }
     ensures via { IfOk result (λ node. HaveVia address.via (some_node node)) }
-    ensures fault { IfErr result (λ fault. (context : Context) (rest : Items) → GivesFault source.now.file.now context (leaf text_item (at_span source.now.text.now span) rest) work.old.count fault) }
+    ensures fault { IfErr result (λ fault. (context : Context) (rest : Items) → GivesFault source.now.file.now context (leaf text_item (at_span source.now.text.now span) rest) work.old.count (open_fault fault)) }
 {
     let value = Txt::from_string(text_value(alloc, source.text_at(span)?, false)?);
     if value.len() == 0 {
@@ -55,7 +56,7 @@ pub(crate) fn comment_node(
     ensures count { IfOk result (λ node. work.new.count ≡ work.old.count + node_count (nodes_in (node ∷ []))) }
     ensures paths { IfOk result (λ node. (outer : List ℕ) (index : ℕ) (rest : Items) → address.path ≡ path_below outer index → HasPaths outer index (leaf comment_item (at_span source.now.text.now span) rest) rest (suc index) (node ∷ [])) }
     ensures via { IfOk result (λ node. HaveVia address.via (node ∷ [])) }
-    ensures fault { IfErr result (λ fault. (context : Context) (rest : Items) → GivesFault source.now.file.now context (leaf comment_item (at_span source.now.text.now span) rest) work.old.count fault) }
+    ensures fault { IfErr result (λ fault. (context : Context) (rest : Items) → GivesFault source.now.file.now context (leaf comment_item (at_span source.now.text.now span) rest) work.old.count (open_fault fault)) }
 {
     let value = comment_text(alloc, source.text_at(span)?)?;
     work.count_one(source)?;
@@ -78,7 +79,7 @@ pub(crate) fn pi_node(
     ensures count { IfOk result (λ node. work.new.count ≡ work.old.count + node_count (nodes_in (node ∷ []))) }
     ensures paths { IfOk result (λ node. (outer : List ℕ) (index : ℕ) (rest : Items) → address.path ≡ path_below outer index → HasPaths outer index (leaf pi_item (at_span source.now.text.now span) rest) rest (suc index) (node ∷ [])) }
     ensures via { IfOk result (λ node. HaveVia address.via (node ∷ [])) }
-    ensures fault { IfErr result (λ fault. (context : Context) (rest : Items) → GivesFault source.now.file.now context (leaf pi_item (at_span source.now.text.now span) rest) work.old.count fault) }
+    ensures fault { IfErr result (λ fault. (context : Context) (rest : Items) → GivesFault source.now.file.now context (leaf pi_item (at_span source.now.text.now span) rest) work.old.count (open_fault fault)) }
 {
     let parts = pi_parts(alloc, source.text_at(span)?)?;
     work.count_one(source)?;

@@ -8,6 +8,7 @@ ghost use Rattle.bk_spec.specs.Node.{owned, node_count};
 ghost use Rattle.bk_spec.specs.NodePaths.{path_below};
 ghost use Rattle.bk_info.specs.Nodes.{nodes_in};
 ghost use Rattle.bk_info.specs.Vias.{HaveVia};
+ghost use Rattle.ent_doc.specs.Opening.{open_fault};
 ghost use Rattle.ent_doc.specs.Steps.{Gives, GivesFault, HavePaths, HasPaths, AreTagsInPlace, some_node};
 
 use crate::element::own_of;
@@ -49,7 +50,7 @@ fn element_node(
     ensures count { IfOk result (λ node. work.new.count ≡ work.old.count + node_count (nodes_in (node ∷ []))) }
     ensures paths { IfOk result (λ node. (close : Option (List ℕ)) (rest : TreeItems) (outer : List ℕ) (index : ℕ) → address.path ≡ path_below outer index → HasPaths outer index (element (at_span source.now.text.now tag.now.span) (items_in source.now.text.now kids.now) close rest) rest (suc index) (node ∷ [])) }
     ensures via { IfOk result (λ node. HaveVia address.via (node ∷ [])) }
-    ensures fault { IfErr result (λ fault. (close : Option (List ℕ)) (rest : TreeItems) → GivesFault source.now.file.now context.now (element (at_span source.now.text.now tag.now.span) (items_in source.now.text.now kids.now) close rest) work.old.count fault) }
+    ensures fault { IfErr result (λ fault. (close : Option (List ℕ)) (rest : TreeItems) → GivesFault source.now.file.now context.now (element (at_span source.now.text.now tag.now.span) (items_in source.now.text.now kids.now) close rest) work.old.count (open_fault fault)) }
 {
     let qname = source.text_at(tag.name)?;
     let values = values_of(alloc, source, tag.attrs.as_slice())?;
@@ -81,7 +82,7 @@ fn node_of(
     ensures count { IfOk result (λ node. work.new.count ≡ work.old.count + node_count (nodes_in (some_node node))) }
     ensures paths { IfOk result (λ node. (rest : TreeItems) (outer : List ℕ) (index : ℕ) → address.path ≡ path_below outer index → HasPaths outer index (before (item_of source.now.text.now item.now) rest) rest (suc index) (some_node node)) }
     ensures via { IfOk result (λ node. HaveVia address.via (some_node node)) }
-    ensures fault { IfErr result (λ fault. (rest : TreeItems) → GivesFault source.now.file.now context.now (before (item_of source.now.text.now item.now) rest) work.old.count fault) }
+    ensures fault { IfErr result (λ fault. (rest : TreeItems) → GivesFault source.now.file.now context.now (before (item_of source.now.text.now item.now) rest) work.old.count (open_fault fault)) }
 {
     match item {
         Src::Elem { head, kids, .. } => Ok(Some(element_node(
@@ -116,7 +117,7 @@ fn kids_of(
     ensures count { IfOk result (λ nodes. work.new.count ≡ work.old.count + node_count (nodes_in nodes)) }
     ensures paths { IfOk result (HavePaths address.now.path (items_in source.now.text.now items.now)) }
     ensures via { IfOk result (HaveVia address.now.via) }
-    ensures fault { IfErr result (GivesFault source.now.file.now context.now (items_in source.now.text.now items.now) work.old.count) }
+    ensures fault { IfErr result (λ fault. GivesFault source.now.file.now context.now (items_in source.now.text.now items.now) work.old.count (open_fault fault)) }
 {
     if items.is_empty() {
         return Ok(Items::new(alloc));
@@ -141,7 +142,7 @@ pub(crate) fn nodes_of(
     ensures count { IfOk result (λ nodes. work.new.count ≡ work.old.count + node_count (nodes_in nodes)) }
     ensures paths { IfOk result (HavePaths siblings.now.path (items_in source.now.text.now items.now)) }
     ensures via { IfOk result (HaveVia siblings.now.via) }
-    ensures fault { IfErr result (GivesFault source.now.file.now context.now (items_in source.now.text.now items.now) work.old.count) }
+    ensures fault { IfErr result (λ fault. GivesFault source.now.file.now context.now (items_in source.now.text.now items.now) work.old.count (open_fault fault)) }
 {
     let mut nodes = Vec::with_capacity(alloc, items.len())?;
     for (index, item) in items.iter().enumerate() {

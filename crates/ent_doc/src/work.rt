@@ -3,6 +3,7 @@ ghost use Rattle.std.specs.Prelude.{◌≡◌, suc, OnOk, IfOk, IfErr, Result};
 ghost use Rattle.bk_spec.specs.Node.{Nodes};
 ghost use Rattle.bk_spec.specs.Fault.{Fault};
 ghost use Rattle.bk_spec.specs.DocumentNodes.{with_room};
+ghost use Rattle.ent_doc.specs.Opening.{open_fault};
 ghost use Rattle.ent_doc.specs.Steps.{Fails};
 
 use crate::fault::OpenFault;
@@ -35,7 +36,7 @@ impl Work {
     pub(crate) fn count_one(&mut self, source: &Source<'_>) -> Result<(), OpenFault>
         ensures count { OnOk result (self.new.count ≡ suc self.old.count) }
         ensures room { OnOk result ((others : Result Nodes Fault) → with_room source.now.file.now self.old.count others ≡ others) }
-        ensures fault { IfErr result (λ fault. (others : Result Nodes Fault) → Fails (with_room source.now.file.now self.old.count others) fault) }
+        ensures fault { IfErr result (λ fault. (others : Result Nodes Fault) → Fails (with_room source.now.file.now self.old.count others) (open_fault fault)) }
     {
         if self.count >= MOST {
             return Err(OpenFault::Book(source.too_large()?));

@@ -3,6 +3,7 @@ use Rattle.std.proofs.lemmas.List.{nil_from_length}
 use Rattle.std.proofs.lemmas.Result.{err_from_is_err_and}
 use Rattle.std.specs.Vec.Iter.{into_iter_items}
 use Rattle.xt_spec.specs.Namespace.{is_declaration}
+use Rattle.ent_doc.specs.Opening.{open_fault}
 use Rattle.ent_doc.proofs.AttributeLemmas.{attrs_begin, attrs_declared, attrs_more, attrs_fail, attrs_end}
 use Rattle.ent_doc.proofs.attribute.attrs_of.Goals as goal
 
@@ -13,7 +14,7 @@ pub returns-in_err-attr_of-clause-fault : goal.returns-in_err-attr_of-clause-fau
 returns-in_err-attr_of-clause-fault c =
     let p = err_from_is_err_and c.from_residual-in_err-attr_of.result c.from_residual-in_err-attr_of.ensures.1 in
     rw (p.1, p.2)
-    (attrs_fail c.args.source.now.file.now c.args.scope.now c.args.values.items (into_iter_items c.next.new.self) (into_iter_items c.loop-value.value-iterator) c.in-Some.value c.loop-value.attrs.items c.in_err-attr_of.field-0.0
+    (attrs_fail c.args.source.now.file.now c.args.scope.now c.args.values.items (into_iter_items c.next.new.self) (into_iter_items c.loop-value.value-iterator) c.in-Some.value c.loop-value.attrs.items (open_fault c.in_err-attr_of.field-0.0)
     c.in-Some.ensures.steps.0 (ap is_declaration (sym c.name.ensures.value) ∙ sym c.is_declaration.ensures.value ∙ c.if-not-is_declaration.true) c.in_err-attr_of.ensures.fault c.loop-value.invariant)
 
 pub loop-value-preserved-in_ok-put : goal.loop-value-preserved-in_ok-put

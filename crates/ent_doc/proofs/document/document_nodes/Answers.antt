@@ -6,6 +6,7 @@ use Rattle.xt_tree.specs.Places.{marks_of}
 use Rattle.bk_spec.specs.Node.{owned}
 use Rattle.bk_spec.specs.NodePaths.{node_paths}
 use Rattle.bk_info.specs.Address.{Address}
+use Rattle.ent_doc.specs.Opening.{open_fault}
 use Rattle.ent_doc.proofs.DocumentLemmas.{document_gives, document_fails}
 use Rattle.ent_doc.proofs.ItemLemmas.{tags_in_place}
 use Rattle.ent_doc.proofs.document.document_nodes.Goals as goal
@@ -23,7 +24,7 @@ returns-clause-value c =
 
 pub returns-clause-fault : goal.returns-clause-fault
 returns-clause-fault c =
-    IfErr-weaker c.nodes_of.result _ _ (λ fault gives. document_fails c.args.file.now c.args.text.now c.args.items.now c.in_ok-context.context c.in_ok-work.work.count fault
+    IfErr-weaker c.nodes_of.result _ _ (λ fault gives. document_fails c.args.file.now c.args.text.now c.args.items.now c.in_ok-context.context c.in_ok-work.work.count (open_fault fault)
     c.in_ok-context.ensures.value c.in_ok-work.ensures.count gives) c.nodes_of.ensures.fault
 
 pub returns-clause-paths : goal.returns-clause-paths

@@ -1,6 +1,7 @@
 use Rattle.std.proofs.Common.{◌∙◌, sym}
 use Rattle.std.proofs.lemmas.Result.{err_from_is_err_and}
 use Rattle.xt_tree.specs.Meaning.{at_span}
+use Rattle.ent_doc.specs.Opening.{open_fault}
 use Rattle.ent_doc.proofs.LeafLemmas.{text_gives, void_gives, text_fails, is_void, is_not_void}
 use Rattle.ent_doc.proofs.PathLemmas.{void_paths, text_has_path}
 use Rattle.ent_doc.proofs.leaf.text_node.Goals as goal
@@ -16,7 +17,7 @@ returns-in_err-count_one-clause-fault c =
     let p = err_from_is_err_and c.from_residual-in_err-count_one.result c.from_residual-in_err-count_one.ensures.1 in
     let piece = c.in_ok-text_at.ensures.value in
     rw (p.1, p.2)
-    (λ context rest. text_fails c.args.source.now.file.now (at_span c.args.source.now.text.now c.args.span) context rest c.args.work.now.count c.from_string-value.result c.in_err-count_one.field-0.0
+    (λ context rest. text_fails c.args.source.now.file.now (at_span c.args.source.now.text.now c.args.span) context rest c.args.work.now.count c.from_string-value.result (open_fault c.in_err-count_one.field-0.0)
     (λ other has. c.in_ok-text_value.ensures.exact other (rw piece has) ∙ sym c.from_string-value.ensures.value)
     (is_not_void c.from_string-value.result c.len.result c.len.ensures.value c.if-len-eq0.false) c.in_err-count_one.ensures.fault)
 

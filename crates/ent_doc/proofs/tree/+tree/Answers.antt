@@ -6,6 +6,7 @@ use Rattle.bk_spec.specs.Node.{Origin, element_node}
 use Rattle.bk_info.specs.declared.node.Node.TheVariants as code
 use Rattle.bk_info.specs.Address.{Address}
 use Rattle.bk_info.specs.Nodes.{nodes_in, head_in}
+use Rattle.ent_doc.specs.Opening.{open_fault}
 use Rattle.ent_doc.specs.Steps.{Gives, GivesFault, HasPaths, element_in, some_node}
 use Rattle.ent_doc.proofs.ElementLemmas.{element_gives, own_fails, room_fails, kids_fail}
 use Rattle.bk_info.proofs.Theorems.{element_is, element_paths, element_has_via, none_have_via}
@@ -18,7 +19,7 @@ pub element_node-returns-in_err-own-clause-fault : goal.element_node-returns-in_
 element_node-returns-in_err-own-clause-fault t c =
     let p = err_from_is_err_and c.from_residual-in_err-own.result c.from_residual-in_err-own.ensures.1 in
     rw (p.1, p.2)
-    (λ close rest. own_fails c.args.source.now.text.now c.args.source.now.file.now c.args.context.now c.args.tag.now (items_in c.args.source.now.text.now c.args.kids.now) rest close c.args.work.now.count c.in_ok-qname.qname.now c.as_slice.result.now c.in_ok-values.values.items c.in_err-own.field-0.0
+    (λ close rest. own_fails c.args.source.now.text.now c.args.source.now.file.now c.args.context.now c.args.tag.now (items_in c.args.source.now.text.now c.args.kids.now) rest close c.args.work.now.count c.in_ok-qname.qname.now c.as_slice.result.now c.in_ok-values.values.items (open_fault c.in_err-own.field-0.0)
     c.requires.tag c.in_ok-qname.ensures.value c.as_slice.ensures.value c.in_ok-values.ensures.value c.in_err-own.ensures.fault)
 
 pub element_node-returns-in_err-count_one-clause-fault : goal.element_node-returns-in_err-count_one-clause-fault
@@ -26,7 +27,7 @@ element_node-returns-in_err-count_one-clause-fault t c =
     let p = err_from_is_err_and c.from_residual-in_err-count_one.result c.from_residual-in_err-count_one.ensures.1 in
     rw (p.1, p.2)
     (λ close rest. room_fails c.args.source.now.text.now c.args.source.now.file.now c.args.context.now c.args.tag.now (items_in c.args.source.now.text.now c.args.kids.now) rest close c.args.work.now.count c.in_ok-qname.qname.now c.as_slice.result.now c.in_ok-values.values.items
-    (element_in c.args.source.now.file.now c.in_ok-own.own) c.in_err-count_one.field-0.0
+    (element_in c.args.source.now.file.now c.in_ok-own.own) (open_fault c.in_err-count_one.field-0.0)
     c.requires.tag c.in_ok-qname.ensures.value c.as_slice.ensures.value c.in_ok-values.ensures.value c.in_ok-own.ensures.value c.in_err-count_one.ensures.fault)
 
 pub element_node-returns-in_err-kids-clause-fault : goal.element_node-returns-in_err-kids-clause-fault
@@ -34,7 +35,7 @@ element_node-returns-in_err-kids-clause-fault t c =
     let p = err_from_is_err_and c.from_residual-in_err-kids.result c.from_residual-in_err-kids.ensures.1 in
     rw (p.1, p.2)
     (λ close rest. kids_fail c.args.source.now.text.now c.args.source.now.file.now c.args.context.now c.args.tag.now (items_in c.args.source.now.text.now c.args.kids.now) rest close c.args.work.now.count c.count_one.new.self.count c.in_ok-qname.qname.now c.as_slice.result.now c.in_ok-values.values.items
-    (element_in c.args.source.now.file.now c.in_ok-own.own) c.in_err-kids.field-0.0
+    (element_in c.args.source.now.file.now c.in_ok-own.own) (open_fault c.in_err-kids.field-0.0)
     c.requires.tag c.in_ok-qname.ensures.value c.as_slice.ensures.value c.in_ok-values.ensures.value c.in_ok-own.ensures.value c.in_ok-count_one.ensures.room c.in_ok-count_one.ensures.count c.in_err-kids.ensures.fault)
 
 pub element_node-returns-clause-value : goal.element_node-returns-clause-value
@@ -55,21 +56,21 @@ pub node_of-returns-in_err-element_node-in-Elem-clause-fault : goal.node_of-retu
 node_of-returns-in_err-element_node-in-Elem-clause-fault t c =
     let p = err_from_is_err_and c.from_residual.result c.from_residual.ensures.1 in
     rw (p.1, p.2)
-    (λ rest. of_element c.args.source.now.text.now (λ (items : Items). GivesFault c.args.source.now.file.now c.args.context.now items c.args.work.now.count c.in_err-element_node-in-Elem.field-0.0) rest c.args.item.now c.in-Elem.head c.in-Elem.kids c.as_slice.result.now c.in-Elem.tail c.in-Elem.is c.as_slice.ensures
+    (λ rest. of_element c.args.source.now.text.now (λ (items : Items). GivesFault c.args.source.now.file.now c.args.context.now items c.args.work.now.count (open_fault c.in_err-element_node-in-Elem.field-0.0)) rest c.args.item.now c.in-Elem.head c.in-Elem.kids c.as_slice.result.now c.in-Elem.tail c.in-Elem.is c.as_slice.ensures
     (λ close. c.in_err-element_node-in-Elem.ensures.fault close rest))
 
 pub node_of-returns-in_err-comment_node-in-Comment-clause-fault : goal.node_of-returns-in_err-comment_node-in-Comment-clause-fault
 node_of-returns-in_err-comment_node-in-Comment-clause-fault t c =
     let p = err_from_is_err_and c.from_residual-in_err-comment_node-in-Comment.result c.from_residual-in_err-comment_node-in-Comment.ensures.1 in
     rw (p.1, p.2)
-    (λ rest. of_comment c.args.source.now.text.now (λ (items : Items). GivesFault c.args.source.now.file.now c.args.context.now items c.args.work.now.count c.in_err-comment_node-in-Comment.field-0.0) rest c.args.item.now c.in-Comment.span c.in-Comment.is
+    (λ rest. of_comment c.args.source.now.text.now (λ (items : Items). GivesFault c.args.source.now.file.now c.args.context.now items c.args.work.now.count (open_fault c.in_err-comment_node-in-Comment.field-0.0)) rest c.args.item.now c.in-Comment.span c.in-Comment.is
     (c.in_err-comment_node-in-Comment.ensures.fault c.args.context.now rest))
 
 pub node_of-returns-in_err-pi_node-in-Pi-clause-fault : goal.node_of-returns-in_err-pi_node-in-Pi-clause-fault
 node_of-returns-in_err-pi_node-in-Pi-clause-fault t c =
     let p = err_from_is_err_and c.from_residual-in_err-pi_node-in-Pi.result c.from_residual-in_err-pi_node-in-Pi.ensures.1 in
     rw (p.1, p.2)
-    (λ rest. of_pi c.args.source.now.text.now (λ (items : Items). GivesFault c.args.source.now.file.now c.args.context.now items c.args.work.now.count c.in_err-pi_node-in-Pi.field-0.0) rest c.args.item.now c.in-Pi.span c.in-Pi.is
+    (λ rest. of_pi c.args.source.now.text.now (λ (items : Items). GivesFault c.args.source.now.file.now c.args.context.now items c.args.work.now.count (open_fault c.in_err-pi_node-in-Pi.field-0.0)) rest c.args.item.now c.in-Pi.span c.in-Pi.is
     (c.in_err-pi_node-in-Pi.ensures.fault c.args.context.now rest))
 
 pub node_of-returns-in_ok-element_node-in-Elem-clause-value : goal.node_of-returns-in_ok-element_node-in-Elem-clause-value
@@ -79,7 +80,7 @@ node_of-returns-in_ok-element_node-in-Elem-clause-value t c rest =
 
 pub node_of-returns-in-Text-clause-fault : goal.node_of-returns-in-Text-clause-fault
 node_of-returns-in-Text-clause-fault t c =
-    IfErr-weaker c.text_node.result _ _ (λ fault fails rest. of_text c.args.source.now.text.now (λ (items : Items). GivesFault c.args.source.now.file.now c.args.context.now items c.args.work.now.count fault) rest c.args.item.now c.in-Text.span c.in-Text.is (fails c.args.context.now rest)) c.text_node.ensures.fault
+    IfErr-weaker c.text_node.result _ _ (λ fault fails rest. of_text c.args.source.now.text.now (λ (items : Items). GivesFault c.args.source.now.file.now c.args.context.now items c.args.work.now.count (open_fault fault)) rest c.args.item.now c.in-Text.span c.in-Text.is (fails c.args.context.now rest)) c.text_node.ensures.fault
 
 pub nodes_of-loop-index-init : goal.nodes_of-loop-index-init
 nodes_of-loop-index-init t c = record {
@@ -99,7 +100,7 @@ pub nodes_of-returns-in_err-node_of-clause-fault : goal.nodes_of-returns-in_err-
 nodes_of-returns-in_err-node_of-clause-fault t c =
     let p = err_from_is_err_and c.from_residual-in_err-node_of.result c.from_residual-in_err-node_of.ensures.1 in
     rw (p.1, p.2)
-    (items_fail c.args.source.now.text.now c.args.source.now.file.now c.args.context.now c.args.items.now c.loop-index.index c.index-items-index.result c.args.work.now.count c.loop-index.work.count c.loop-index.nodes.items c.in_err-node_of.field-0.0 c.loop-index-test.true c.index-items-index.is
+    (items_fail c.args.source.now.text.now c.args.source.now.file.now c.args.context.now c.args.items.now c.loop-index.index c.index-items-index.result c.args.work.now.count c.loop-index.work.count c.loop-index.nodes.items (open_fault c.in_err-node_of.field-0.0) c.loop-index-test.true c.index-items-index.is
     c.loop-index.invariant.gives c.in_err-node_of.ensures.fault)
 
 pub nodes_of-loop-index-preserved : goal.nodes_of-loop-index-preserved
