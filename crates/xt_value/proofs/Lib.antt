@@ -1,5 +1,6 @@
 pub mod ContentLemmas
 pub mod LineLemmas
+pub mod Literals
 pub mod MarkupLemmas
 pub mod NameParts
 pub mod PartLemmas
