@@ -85,7 +85,7 @@ def page(rows, count, repeats, load):
         "# Results of bench/edits.py",
         "",
         f"Medians of {repeats} runs each, processor time. {os.cpu_count()} processors ({platform.machine()}); load {load[0]:.1f} at the start and {os.getloadavg()[0]:.1f} at the end.",
-        f"\"Edit\" is the {count:,}th part of what {count:,} edits add to a run. \"Reading\" is a whole run of `book_where`, which reads the file and makes nothing of it; \"copy\" a copy of the bytes in memory.",
+        f"\"Edit\" is the {count:,}th part of what {count:,} edits add to a run. \"Reading\" is a whole run of `book_where`, which reads the file and makes nothing of it (for a small book, mostly the start of a process); \"copy\" a copy of the bytes in memory.",
         "",
         "| Book | Edit | Reading | Copy | Edit to reading and copy | Aim |",
         "|---|---|---|---|---|---|",
