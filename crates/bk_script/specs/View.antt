@@ -5,8 +5,8 @@ use Rattle.bk_script.specs.Command as spec
 use Rattle.bk_script.specs.Script.{ScriptFault, too_long, bad_line, too_many}
 use Rattle.bk_script.specs.declared.command.Command.{Command}
 use Rattle.bk_script.specs.declared.command.Command.TheVariants as command
-use Rattle.bk_script.specs.declared.op.Op.{Op}
-use Rattle.bk_script.specs.declared.op.Op.TheVariants as op
+use Rattle.ed_edit.specs.declared.edit.Edit.{Edit}
+use Rattle.ed_edit.specs.declared.edit.Edit.TheVariants.{Text}
 use Rattle.bk_script.specs.declared.script.ScriptFault as code
 use Rattle.bk_script.specs.declared.script.ScriptFault.TheVariants.{Long, BadLine, Many, NoMemory}
 
@@ -14,12 +14,13 @@ use Rattle.bk_script.specs.declared.script.ScriptFault.TheVariants.{Long, BadLin
 abbrev pub place_from : List ℕ → Place
 place_from numbers = record { numbers = numbers; carets = 0 }
 
-abbrev pub edit_of : Op → spec.Command
-edit_of (op.Text place from to value) = spec.edit_text (place_from place) from to value
+-- the command that asks for an edit
+abbrev pub edit_command : Edit → spec.Command
+edit_command (Text place from to value) = spec.edit_text (place_from place) from to value
 
 -- the command of a script that a command of the code is
 abbrev pub command_of : Command → spec.Command
-command_of (command.Edit op) = edit_of op
+command_of (command.Edit edit) = edit_command edit
 command_of command.Burst = spec.burst
 
 -- the fault that an answer of the code is; none where memory ran out
