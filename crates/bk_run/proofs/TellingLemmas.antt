@@ -16,7 +16,7 @@ use Rattle.ed_laws.proofs.Theorems.{one_reply, one_run}
 use Rattle.ed_session.specs.Kept.{Kept}
 use Rattle.bk_script.specs.declared.command.Command.{Command as CommandOfCode}
 use Rattle.bk_script.specs.declared.command.Command.TheVariants as code
-use Rattle.bk_script.specs.declared.op.Op.TheVariants as op
+use Rattle.ed_edit.specs.declared.edit.Edit.TheVariants.{Text}
 use Rattle.bk_script.specs.View.{command_of}
 use Rattle.bk_run.specs.Replies.{AreCommandsOf, IsCommandOf, reply_text, replies_text, is_refusal, any_refused}
 use Rattle.bk_run.specs.Stops.{saved_after, IsCut, IsSameInAll, IsOfOneBurst}
@@ -27,7 +27,7 @@ use Rattle.bk_run.proofs.DoingLemmas.{stands_recovers, stands_holds, doing_stop}
 -- ---- what the commands of the code ask
 
 asked_one : (command : CommandOfCode) (asked : Command) → IsCommandOf (command_of command) asked → asked ≡ asked_of command
-asked_one (code.Edit (op.Text place from to value)) asked is = is.1
+asked_one (code.Edit (Text place from to value)) asked is = is.1
 asked_one code.Burst asked is = is
 
 pub asked_all : (commands : List CommandOfCode) (asked : List Command) → AreCommandsOf (map command_of commands) asked → asked ≡ map asked_of commands
@@ -37,7 +37,7 @@ asked_all (command ∷ commands) (first ∷ asked) (is, are) = ap₂ (λ (c : Co
 
 -- .. and each that is built asks something
 asks_one : (command : CommandOfCode) → IsCommandOf (command_of command) (asked_of command)
-asks_one (code.Edit (op.Text place from to value)) = (refl, refl)
+asks_one (code.Edit (Text place from to value)) = (refl, refl)
 asks_one code.Burst = refl
 
 pub asks_all : (commands : List CommandOfCode) → AreCommandsOf (map command_of commands) (map asked_of commands)

@@ -16,13 +16,13 @@ use Rattle.bk_script.specs.declared.command.Command.TheVariants as code
 use Rattle.ed_spec.specs.Book.{with_file}
 use Rattle.ed_spec.specs.Session.{Session, Command, edit, burst, Reply, Does}
 use Rattle.ed_session.specs.Kept.{Kept}
-use Rattle.ed_session.specs.Edits.{edit_of}
+use Rattle.ed_edit.specs.View.{edit_of}
 use Rattle.ed_session.specs.Burst.{MayCrashInBurst}
 use Rattle.bk_run.specs.declared.stop.Stop.{Stop}
 use Rattle.bk_run.specs.declared.stop.Stop.TheVariants as stop
 
 abbrev pub asked_of : CommandOfCode → Command
-asked_of (code.Edit op) = edit (edit_of op)
+asked_of (code.Edit made) = edit (edit_of made)
 asked_of code.Burst = burst
 
 abbrev pub stop_of : DeskErr → Stop
@@ -47,5 +47,5 @@ pub record IsDone (root : List ℕ) (s : Session) (command : Command) (reply : R
 
 -- an edit leaves the disk as it is
 abbrev pub MayCrashIn : CommandOfCode → Kept → DiskState → CrashState → Type 0
-MayCrashIn (code.Edit op) k start crash = IsCrashState start crash
+MayCrashIn (code.Edit made) k start crash = IsCrashState start crash
 MayCrashIn code.Burst k start crash = MayCrashInBurst k start crash

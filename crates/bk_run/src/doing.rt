@@ -5,7 +5,7 @@ ghost use Rattle.bk_desk.specs.Disk.{DiskState};
 ghost use Rattle.bk_desk.specs.CrashPoints.{AtEachCrash};
 ghost use Rattle.bk_desk.specs.Cause.{HasCause};
 ghost use Rattle.jr_burst.specs.Commit.{IsClosed};
-ghost use Rattle.ed_session.specs.Edits.{edit_of};
+ghost use Rattle.ed_edit.specs.View.{edit_of};
 ghost use Rattle.ed_session.specs.Burst.{MayCrashInBurst};
 ghost use Rattle.ed_spec.specs.Session as model;
 ghost use Rattle.bk_run.specs.Replies.{reply_of};
@@ -14,18 +14,23 @@ ghost use Rattle.bk_run.specs.Doing.{asked_of, Stands, IsDone, MayCrashIn};
 use crate::replies::Reply;
 use crate::stop::Stop;
 use bk_desk::{Desk, DeskErr};
-use bk_script::{Command, Op};
+use bk_script::Command;
+use ed_edit::Edit;
 use ed_session::{EditFault, Session};
 use std::sync::ledger::Ledger;
 use xt_lex::Steps;
 
 /// Makes an edit, or says why not. The disk is not touched.
-fn make_edit<L: Ledger>(session: &mut Session, op: &Op, steps: &mut Steps<L>) -> Result<Reply, Stop>
-    ensures value { (s : model.Session) (disk : DiskState) → Stands session.old disk s → IfOk result (λ reply. IsDone session.old.root s (model.edit (edit_of op.now)) (reply_of reply) session.new disk) }
+fn make_edit<L: Ledger>(
+    session: &mut Session,
+    edit: &Edit,
+    steps: &mut Steps<L>,
+) -> Result<Reply, Stop>
+    ensures value { (s : model.Session) (disk : DiskState) → Stands session.old disk s → IfOk result (λ reply. IsDone session.old.root s (model.edit (edit_of edit.now)) (reply_of reply) session.new disk) }
     ensures fault { IsErrOf result Stop.Fault → ⊥ }
     ensures count { (steps.old ≤ steps.new) × (steps.new ≤ steps.old + most_file_bytes) }
 {
-    match session.edit(op, steps) {
+    match session.edit(edit, steps) {
         Ok(()) => Ok(Reply::Done),
         Err(EditFault::Refused(refusal)) => Ok(Reply::Refused(refusal)),
         Err(EditFault::NoMemory) => Err(Stop::NoMemory),
@@ -63,7 +68,7 @@ pub(crate) fn perform<D: Desk, L: Ledger>(
     ensures count { (steps.old ≤ steps.new) × (steps.new ≤ steps.old + most_file_bytes) }
 {
     match command {
-        Command::Edit(op) => make_edit(session, op, steps),
+        Command::Edit(edit) => make_edit(session, edit, steps),
         Command::Burst => save(session, desk),
     }
 }

@@ -46,7 +46,7 @@ text_takes text c e =
       value = v.0;
       command = cc;
       words =
-          front_word text (place (place_from p.0)) (number n.0 ∷ number m.0 ∷ string v.0 ∷ []) (place_takes one.0 p.0 p.1).0
+          front_word text (place (place_from p.0)) (number n.0 ∷ number m.0 ∷ string v.0 ∷ []) (place_takes one.0 p.0 p.1)
           (front_word one.1 (number n.0) (number m.0 ∷ string v.0 ∷ []) (number_takes two.0 n.0 n.1)
           (front_word two.1 (number m.0) (string v.0 ∷ []) (number_takes three.0 m.0 m.1) (last_string_takes three.1 v.0 v.1)));
     }

@@ -4,10 +4,9 @@ use lib.Utf8.{encode}
 use Rattle.std.specs.Str.{is_utf8, chars}
 use Rattle.bk_script.specs.Word.{IsNumber, IsPlace}
 use Rattle.bk_script.specs.Command.{Command, edit_text, drop_attr, undo, burst, IsCommandLine}
-use Rattle.bk_script.specs.Script.{IsLine, IsSplit, IsScript, IsFaultOf}
+use Rattle.bk_script.specs.Script.{IsLine, IsSplit, IsScript, bad_line, IsFaultOf}
 use Rattle.bk_script.specs.Reading.{parts_of, word_at, step_at, place_of, code_point_at, escape_at, string_body_at, string_at, last_string_at, text_at, command_at, line_of, lines_of, lines_read, script_read}
 use Rattle.bk_script.specs.View.{place_from}
-use Rattle.bk_script.specs.declared.script.ScriptFault.TheVariants.{BadLine}
 use Rattle.bk_script.proofs.Lines.{line_takes, line_again, split_takes}
 use Rattle.bk_script.proofs.Scripts.{script_takes, fault_takes}
 
@@ -112,6 +111,6 @@ script : IsScript (codes "burst" ++ 10 ∷ 10 ∷ codes "burst") (burst ∷ burs
 unfolding script_read lines_read lines_of parts_of line_of is_utf8 chars encode command_at word_at
 script = script_takes _ _ refl
 
-second_line : IsFaultOf (codes "burst" ++ 10 ∷ codes "undo" ++ 10 ∷ codes "Undo") (BadLine 2)
+second_line : IsFaultOf (codes "burst" ++ 10 ∷ codes "undo" ++ 10 ∷ codes "Undo") (bad_line 2)
 unfolding script_read lines_read lines_of parts_of line_of is_utf8 chars encode command_at word_at
-second_line = fault_takes (codes "burst" ++ 10 ∷ codes "undo" ++ 10 ∷ codes "Undo") (BadLine 2) refl
+second_line = fault_takes (codes "burst" ++ 10 ∷ codes "undo" ++ 10 ∷ codes "Undo") (bad_line 2) refl

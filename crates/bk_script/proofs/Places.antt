@@ -1,12 +1,11 @@
 -- Places: what is read is spelled so, and what is spelled so is read.
-use Rattle.std.proofs.Common.{◌≡◌, ℕ, zero, suc, ◌≤◌, false, eqb, List, [], ◌∷◌, ◌++◌, length, replicate, Option, Some, None, refl, sym, ap, subst, ◌∙◌, arith, inl, inr, append-nil, append_assoc}
+use Rattle.std.proofs.Common.{◌≡◌, ℕ, zero, suc, false, eqb, List, [], ◌∷◌, ◌++◌, length, replicate, Option, Some, None, refl, sym, ap, subst, ◌∙◌, arith, inl, inr, append-nil, append_assoc}
 use Rattle.std.proofs.lemmas.Bool.{cases_Bool, ne_eqb, eqb-false}
 use Rattle.std.proofs.lemmas.List.{length-append}
-use Rattle.std.specs.List.{AllByRecursion}
 use Rattle.xt_spec.specs.Reference.{is_decimal_digit}
 use Rattle.xt_lex.specs.Scan.{take_while, drop_while, after}
 use Rattle.xt_lex.proofs.Theorems.{bind_some, take_while_split, after_takes}
-use Rattle.bk_script.specs.Word.{IsNumber, IsStep, Place, IsPlace, ArePlaceNumbers, AreSpelled}
+use Rattle.bk_script.specs.Word.{IsNumber, IsStep, Place, IsPlace, AreSpelled}
 use Rattle.bk_script.specs.Reading.{number_of, not_zero, step_at, parts_of, all_read, place_of}
 use Rattle.bk_script.specs.View.{place_from}
 use Rattle.bk_script.proofs.Fronts.{StopsAt, run_whole, behind_whole}
@@ -87,17 +86,13 @@ read_takes ([], rest) ns e = absurd cc
 read_takes (n ∷ more, []) ns e = let same : n ∷ more ≡ ns = cc in (same, refl, λ none. absurd cc)
 read_takes (n ∷ more, b ∷ bs) ns e = absurd cc
 
-steps_from_one : (ns steps : List ℕ) → AreSpelled IsStep steps ns → AllByRecursion (λ n. 1 ≤ n) ns
-steps_from_one [] steps are = tt
-steps_from_one (n ∷ ns) steps (t, rest, is, more, e) = (omega (arith, is.2), steps_from_one ns rest more)
-
-pub place_takes : (text ns : List ℕ) → place_of text ≡ Some ns → IsPlace text (place_from ns) × ArePlaceNumbers ns
+pub place_takes : (text ns : List ℕ) → place_of text ≡ Some ns → IsPlace text (place_from ns)
 unfolding place_of
 place_takes text ns e =
     let found = read_takes (parts_of step_at text) ns e in
     let spelled = parts_take step_at IsStep step_takes text in
     let are : AreSpelled IsStep spelled.0 ns = subst (λ (l : List ℕ). AreSpelled IsStep spelled.0 l) found.0 spelled.1 in
-    ((spelled.0, are, found.2, spelled.2 ∙ ap (λ (r : List ℕ). spelled.0 ++ r) found.1), (found.2, steps_from_one ns spelled.0 are))
+    (spelled.0, are, found.2, spelled.2 ∙ ap (λ (r : List ℕ). spelled.0 ++ r) found.1)
 
 -- ---- a loop over steps
 
@@ -113,12 +108,3 @@ steps_more front rest after_it n whole e so_far =
 pub steps_end : (front rest : List ℕ) (whole : List ℕ × List ℕ) → step_at rest ≡ None → with_numbers front (parts_of step_at rest) ≡ whole → whole ≡ (front, rest)
 steps_end front rest whole e so_far =
     sym so_far ∙ ap (with_numbers front) (parts_stop step_at rest e) ∙ ap (λ (l : List ℕ). (l, rest)) (append-nil front)
-
-pub read_numbers : (text ns rest : List ℕ) → parts_of step_at text ≡ (ns, rest) → (ns ≡ [] → ⊥) → ArePlaceNumbers ns
-read_numbers text ns rest e some =
-    let spelled = parts_take step_at IsStep step_takes text in
-    let found : (parts_of step_at text).0 ≡ ns = ap (λ (p : List ℕ × List ℕ). p.0) e in
-    (some, steps_from_one ns spelled.0 (subst (λ (l : List ℕ). AreSpelled IsStep spelled.0 l) found spelled.1))
-
-pub found_parts : (a b : List ℕ × List ℕ) → ◌≡◌ {A = Option (List ℕ × List ℕ)} (Some a) (Some b) → a ≡ b
-found_parts a b e = cc

@@ -1,14 +1,15 @@
 -- Scripts: what is read is one, and what is one is read; each fault so.
 use Rattle.std.proofs.Common.{◌≡◌, ℕ, ◌+◌, ◌<◌, ◌≤◌, false, ltb, List, [], ◌∷◌, ◌++◌, length, Option, Some, None, Result, Ok, Err, refl, sym, ap, subst, ◌∙◌, arith, inl, inr, ◌⊎◌, append_assoc, append-nil}
-use Rattle.std.specs.Prelude.{IfOk, IfErr}
+use Rattle.std.specs.Prelude.{IfOk, IfErr, IfSome}
 use Rattle.std.proofs.lemmas.Bool.{cases_Bool, ltb-true, ltb-false, lt-ltb, le-ltb}
 use Rattle.std.proofs.lemmas.List.{length-append}
 use Rattle.xt_spec.specs.Limit.{most_commands, most_script_bytes}
 use Rattle.bk_script.specs.Command.{Command}
-use Rattle.bk_script.specs.Script.{IsLine, joined, AreRead, IsScript, IsReadTo, IsFaultOf}
+use Rattle.bk_script.specs.Script.{IsLine, joined, AreRead, IsScript, IsReadTo, ScriptFault, too_long, bad_line, too_many, IsFaultOf}
 use Rattle.bk_script.specs.Reading.{line_of, Outcome, added, and_then, ended_line_at, lines_of, lines_read, script_read, Fails, Answers}
-use Rattle.bk_script.specs.declared.script.ScriptFault.{ScriptFault}
-use Rattle.bk_script.specs.declared.script.ScriptFault.TheVariants as fault
+use Rattle.bk_script.specs.View.{script_fault}
+use Rattle.bk_script.specs.declared.script.ScriptFault as code
+use Rattle.bk_script.specs.declared.script.ScriptFault.TheVariants.{Long, BadLine, Many, NoMemory}
 use Rattle.bk_script.proofs.Lines.{line_takes, line_again, split_takes, split_again, lines_step, lines_stop}
 
 ok_is : (a b : List Command) → ◌≡◌ {A = Outcome} (Ok a) (Ok b) → a ≡ b
@@ -30,25 +31,24 @@ added_some (Some (Some c)) n front all e =
           let same : front ++ c ∷ [] ≡ all = ok_is _ _ (rw lt at e) in
           let small : length front < most_commands = ltb-true _ _ lt in
           (Some c, refl, sym same, λ _. omega (arith, ap length same, length-append front (c ∷ []), small))
-      | inr ge ↦ let none : ◌≡◌ {A = Outcome} (Err fault.Many) (Ok all) = rw ge at e in absurd cc
+      | inr ge ↦ let none : ◌≡◌ {A = Outcome} (Err too_many) (Ok all) = rw ge at e in absurd cc
     ]
 
 abbrev StopsFor : ScriptFault → Option (Option Command) → ℕ → List Command → Type 0
-StopsFor fault.Long o n front = ⊥
-StopsFor (fault.BadLine number) o n front = (o ≡ None) × (number ≡ n)
-StopsFor fault.Many o n front = ((c : Command) × (o ≡ Some (Some c))) × (most_commands ≤ length front)
-StopsFor fault.NoMemory o n front = ⊥
+StopsFor too_long o n front = ⊥
+StopsFor (bad_line number) o n front = (o ≡ None) × (number ≡ n)
+StopsFor too_many o n front = ((c : Command) × (o ≡ Some (Some c))) × (most_commands ≤ length front)
 
 added_err : (o : Option (Option Command)) (n : ℕ) (front : List Command) (e : ScriptFault) → added o n front ≡ Err e → StopsFor e o n front
 added_err None n front e is =
-    let same : fault.BadLine n ≡ e = err_is _ _ is in
+    let same : bad_line n ≡ e = err_is _ _ is in
     subst (λ (d : ScriptFault). StopsFor d None n front) same (refl, refl)
 added_err (Some None) n front e is = absurd cc
 added_err (Some (Some c)) n front e is =
     elim (cases_Bool (ltb (length front) most_commands)) [
       | inl lt ↦ let none : ◌≡◌ {A = Outcome} (Ok (front ++ c ∷ [])) (Err e) = rw lt at is in absurd cc
       | inr ge ↦
-          let same : fault.Many ≡ e = err_is _ _ (rw ge at is) in
+          let same : too_many ≡ e = err_is _ _ (rw ge at is) in
           subst (λ (d : ScriptFault). StopsFor d (Some (Some c)) n front) same ((c, refl), ltb-false _ _ ge)
     ]
 
@@ -163,7 +163,7 @@ lines_front n front (line ∷ before) more own (found, others, is, read, e) le =
 
 -- ---- scripts
 
-size_by : (bytes : List ℕ) (o : Outcome) → script_read bytes ≡ o → ((most_script_bytes < length bytes) × (o ≡ Err fault.Long)) ⊎ ((length bytes ≤ most_script_bytes) × (lines_read 1 [] (lines_of bytes) ≡ o))
+size_by : (bytes : List ℕ) (o : Outcome) → script_read bytes ≡ o → ((most_script_bytes < length bytes) × (o ≡ Err too_long)) ⊎ ((length bytes ≤ most_script_bytes) × (lines_read 1 [] (lines_of bytes) ≡ o))
 unfolding script_read
 size_by bytes o e =
     elim (cases_Bool (ltb most_script_bytes (length bytes))) [
@@ -181,8 +181,8 @@ script_takes bytes commands e =
     ]
 
 fault_by : (bytes : List ℕ) (e : ScriptFault) → length bytes ≤ most_script_bytes → IsStopped 1 [] (lines_of bytes) e → IsFaultOf bytes e
-fault_by bytes fault.Long size s = absurd s.stops
-fault_by bytes (fault.BadLine number) size s = (
+fault_by bytes too_long size s = absurd s.stops
+fault_by bytes (bad_line number) size s = (
   s.before,
   s.line,
   s.own,
@@ -190,7 +190,7 @@ fault_by bytes (fault.BadLine number) size s = (
   (λ found is. let both : ◌≡◌ {A = Option (Option Command)} None (Some found) = sym s.stops.0 ∙ line_again s.line found is in absurd cc),
   omega (arith, s.stops.1),
 )
-fault_by bytes fault.Many size s = (
+fault_by bytes too_many size s = (
   s.before,
   s.line,
   s.own,
@@ -198,12 +198,11 @@ fault_by bytes fault.Many size s = (
   (let le = s.count (omega arith) in omega (arith, s.stops.1, le)),
   (s.stops.0.0, line_takes s.line (Some s.stops.0.0) s.stops.0.1),
 )
-fault_by bytes fault.NoMemory size s = absurd s.stops
 
 pub fault_takes : (bytes : List ℕ) (e : ScriptFault) → script_read bytes ≡ Err e → IsFaultOf bytes e
 fault_takes bytes e is =
     elim (size_by bytes (Err e) is) [
-      | inl long ↦ subst (IsFaultOf bytes) (sym (err_is e fault.Long long.1)) long.0
+      | inl long ↦ subst (IsFaultOf bytes) (sym (err_is e too_long long.1)) long.0
       | inr short ↦ fault_by bytes e short.0 (lines_stop_for 1 [] (lines_of bytes) e short.1)
     ]
 
@@ -225,16 +224,15 @@ reached bytes before line commands to e is =
     let whole : lines_read 1 [] (before ++ line ∷ to.behind) ≡ Err e = front ∙ rw is refl in
     rw (le-ltb _ _ to.size, split_again bytes (before ++ line ∷ to.behind) to.split) whole
 
-pub fault_again : (bytes : List ℕ) (e : ScriptFault) → IsFaultOf bytes e → (e ≡ fault.NoMemory) ⊎ (script_read bytes ≡ Err e)
+pub fault_again : (bytes : List ℕ) (e : ScriptFault) → IsFaultOf bytes e → script_read bytes ≡ Err e
 unfolding script_read
-fault_again bytes fault.Long is = inr (rw (lt-ltb _ _ is) refl)
-fault_again bytes (fault.BadLine number) (before, line, commands, to, none, e) =
+fault_again bytes too_long is = rw (lt-ltb _ _ is) refl
+fault_again bytes (bad_line number) (before, line, commands, to, none, e) =
     let k : 1 + length before ≡ number = omega (arith, e) in
-    inr (reached bytes before line commands to (fault.BadLine number) (rw (none_by line (line_of line) refl none) (ap (λ (m : ℕ). Err (fault.BadLine m)) k)))
-fault_again bytes fault.Many (before, line, commands, to, full, (c, is)) =
+    reached bytes before line commands to (bad_line number) (rw (none_by line (line_of line) refl none) (ap (λ (m : ℕ). Err (bad_line m)) k))
+fault_again bytes too_many (before, line, commands, to, full, (c, is)) =
     let large : ltb (length commands) most_commands ≡ false = le-ltb _ _ (omega (arith, full)) in
-    inr (reached bytes before line commands to fault.Many (rw (line_again line (Some c) is, large) refl))
-fault_again bytes fault.NoMemory is = inl refl
+    reached bytes before line commands to too_many (rw (line_again line (Some c) is, large) refl)
 
 -- ---- a loop over lines
 
@@ -250,18 +248,18 @@ lines_last n front next rest whole e is so_far =
     let one : lines_read n front (rest ∷ []) ≡ Ok next = rw is refl in
     sym so_far ∙ ap (lines_read n front) (lines_stop rest e) ∙ one
 
-fails_first : (n : ℕ) (front : List Command) (line : List ℕ) (lines : List (List ℕ)) (e : ScriptFault) → Fails e (added (line_of line) n front) → Fails e (lines_read n front (line ∷ lines))
+fails_first : (n : ℕ) (front : List Command) (line : List ℕ) (lines : List (List ℕ)) (e : code.ScriptFault) → Fails e (added (line_of line) n front) → Fails e (lines_read n front (line ∷ lines))
 unfolding lines_read
-fails_first n front line lines fault.Long is = rw is refl
-fails_first n front line lines (fault.BadLine number) is = rw is refl
-fails_first n front line lines fault.Many is = rw is refl
-fails_first n front line lines fault.NoMemory is = tt
+fails_first n front line lines Long is = rw is refl
+fails_first n front line lines (BadLine number) is = rw is refl
+fails_first n front line lines Many is = rw is refl
+fails_first n front line lines NoMemory is = tt
 
-pub lines_fail : (n : ℕ) (front : List Command) (rest line after_it : List ℕ) (whole : Outcome) (e : ScriptFault) → ended_line_at rest ≡ Some (line, after_it) → Fails e (added (line_of line) n front) → lines_read n front (lines_of rest) ≡ whole → Fails e whole
+pub lines_fail : (n : ℕ) (front : List Command) (rest line after_it : List ℕ) (whole : Outcome) (e : code.ScriptFault) → ended_line_at rest ≡ Some (line, after_it) → Fails e (added (line_of line) n front) → lines_read n front (lines_of rest) ≡ whole → Fails e whole
 lines_fail n front rest line after_it whole e is fails so_far =
     subst (Fails e) (ap (lines_read n front) (sym (lines_step rest line after_it is)) ∙ so_far) (fails_first n front line (lines_of after_it) e fails)
 
-pub last_fails : (n : ℕ) (front : List Command) (rest : List ℕ) (whole : Outcome) (e : ScriptFault) → ended_line_at rest ≡ None → Fails e (added (line_of rest) n front) → lines_read n front (lines_of rest) ≡ whole → Fails e whole
+pub last_fails : (n : ℕ) (front : List Command) (rest : List ℕ) (whole : Outcome) (e : code.ScriptFault) → ended_line_at rest ≡ None → Fails e (added (line_of rest) n front) → lines_read n front (lines_of rest) ≡ whole → Fails e whole
 last_fails n front rest whole e is fails so_far =
     subst (Fails e) (ap (lines_read n front) (sym (lines_stop rest is)) ∙ so_far) (fails_first n front rest [] e fails)
 
@@ -270,37 +268,32 @@ last_fails n front rest whole e is fails so_far =
 pub one_reading : (bytes : List ℕ) (a b : List Command) → IsScript bytes a → IsScript bytes b → a ≡ b
 one_reading bytes a b is_a is_b = ok_is a b (sym (script_again bytes a is_a) ∙ script_again bytes b is_b)
 
-pub no_fault : (bytes : List ℕ) (a : List Command) (e : ScriptFault) → IsScript bytes a → IsFaultOf bytes e → e ≡ fault.NoMemory
-no_fault bytes a e is has =
-    elim (fault_again bytes e has) [
-      | inl free ↦ free
-      | inr read ↦ let both : ◌≡◌ {A = Outcome} (Ok a) (Err e) = sym (script_again bytes a is) ∙ read in absurd cc
-    ]
+pub no_fault : (bytes : List ℕ) (a : List Command) (e : ScriptFault) → IsScript bytes a → IsFaultOf bytes e → ⊥
+no_fault bytes a e is has = let both : ◌≡◌ {A = Outcome} (Ok a) (Err e) = sym (script_again bytes a is) ∙ fault_again bytes e has in absurd cc
 
-pub one_fault : (bytes : List ℕ) (d e : ScriptFault) → IsFaultOf bytes d → IsFaultOf bytes e → (d ≡ fault.NoMemory) ⊎ ((e ≡ fault.NoMemory) ⊎ (d ≡ e))
-one_fault bytes d e has_d has_e =
-    elim (fault_again bytes d has_d) [
-      | inl free ↦ inl free
-      | inr read_d ↦ elim (fault_again bytes e has_e) [
-        | inl free ↦ inr (inl free)
-        | inr read_e ↦ inr (inr (err_is d e (sym read_d ∙ read_e)))
-      ]
-    ]
+pub one_fault : (bytes : List ℕ) (d e : ScriptFault) → IsFaultOf bytes d → IsFaultOf bytes e → d ≡ e
+one_fault bytes d e has_d has_e = err_is d e (sym (fault_again bytes d has_d) ∙ fault_again bytes e has_e)
 
-pub fails_takes : (bytes : List ℕ) (e : ScriptFault) → Fails e (script_read bytes) → IsFaultOf bytes e
-fails_takes bytes fault.Long is = fault_takes bytes fault.Long is
-fails_takes bytes (fault.BadLine number) is = fault_takes bytes (fault.BadLine number) is
-fails_takes bytes fault.Many is = fault_takes bytes fault.Many is
-fails_takes bytes fault.NoMemory is = tt
+fails_takes : (bytes : List ℕ) (e : code.ScriptFault) → Fails e (script_read bytes) → IfSome (script_fault e) (IsFaultOf bytes)
+fails_takes bytes Long is = fault_takes bytes too_long is
+fails_takes bytes (BadLine number) is = fault_takes bytes (bad_line number) is
+fails_takes bytes Many is = fault_takes bytes too_many is
+fails_takes bytes NoMemory is = tt
 
-pub ok_by : {X : Type 0} (bytes : List ℕ) (view : X → List Command) (r : Result X ScriptFault) → Answers view r (script_read bytes) → IfOk r (λ v. IsScript bytes (view v))
+out_only : (bytes : List ℕ) (a : List Command) (e : code.ScriptFault) → IsScript bytes a → IfSome (script_fault e) (IsFaultOf bytes) → e ≡ NoMemory
+out_only bytes a Long is has = absurd (no_fault bytes a too_long is has)
+out_only bytes a (BadLine number) is has = absurd (no_fault bytes a (bad_line number) is has)
+out_only bytes a Many is has = absurd (no_fault bytes a too_many is has)
+out_only bytes a NoMemory is has = refl
+
+pub ok_by : {X : Type 0} (bytes : List ℕ) (view : X → List Command) (r : Result X code.ScriptFault) → Answers view r (script_read bytes) → IfOk r (λ v. IsScript bytes (view v))
 ok_by bytes view (Ok v) is = script_takes bytes (view v) is
 ok_by bytes view (Err e) is = tt
 
-pub err_by : {X : Type 0} (bytes : List ℕ) (view : X → List Command) (r : Result X ScriptFault) → Answers view r (script_read bytes) → IfErr r (λ e. IsFaultOf bytes e)
+pub err_by : {X : Type 0} (bytes : List ℕ) (view : X → List Command) (r : Result X code.ScriptFault) → Answers view r (script_read bytes) → IfErr r (λ e. IfSome (script_fault e) (IsFaultOf bytes))
 err_by bytes view (Ok v) is = tt
 err_by bytes view (Err e) is = fails_takes bytes e is
 
-pub only_by : {X : Type 0} (bytes : List ℕ) (view : X → List Command) (r : Result X ScriptFault) → Answers view r (script_read bytes) → IfErr r (λ e. (commands : List Command) → IsScript bytes commands → e ≡ fault.NoMemory)
+pub only_by : {X : Type 0} (bytes : List ℕ) (view : X → List Command) (r : Result X code.ScriptFault) → Answers view r (script_read bytes) → IfErr r (λ e. (commands : List Command) → IsScript bytes commands → e ≡ NoMemory)
 only_by bytes view (Ok v) is = tt
-only_by bytes view (Err e) is = λ commands script. no_fault bytes commands e script (fails_takes bytes e is)
+only_by bytes view (Err e) is = λ commands script. out_only bytes commands e script (fails_takes bytes e is)

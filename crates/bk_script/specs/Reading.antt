@@ -6,7 +6,7 @@
 --   command_at    the built command that a line's text is
 --   lines_of      the lines of the bytes
 --   lines_read    the commands of lines, or the first fault
-use Rattle.std.specs.Prelude.{◌≡◌, ℕ, zero, suc, ◌+◌, ◌-◌, ◌*◌, List, [], ◌∷◌, ◌++◌, length, take, codes, bytes_eq, Bool, true, not, ◌&&◌, ◌==◌, nat_le, nat_lt, Option, Some, None, Result, Ok, Err, if◌then◌else◌, encode_utf8}
+use Rattle.std.specs.Prelude.{◌≡◌, ℕ, zero, suc, ◌+◌, ◌-◌, ◌*◌, List, [], ◌∷◌, ◌++◌, length, take, codes, bytes_eq, Bool, true, not, ◌&&◌, ◌==◌, nat_le, nat_lt, Option, Some, None, IfSome, Result, Ok, Err, if◌then◌else◌, encode_utf8}
 use Rattle.std.specs.List.{list_all, concat}
 use Rattle.std.specs.Str.{is_utf8}
 use Rattle.xt_spec.specs.Limit.{most_commands, most_script_bytes}
@@ -14,11 +14,11 @@ use Rattle.xt_spec.specs.Reference.{is_decimal_digit, is_hexadecimal_digit, digi
 use Rattle.xt_lex.specs.Scan.{◌>>=◌, maybe, take_while, drop_while, after}
 use Rattle.bk_script.specs.Word.{is_blank, is_plain, is_scalar}
 use Rattle.bk_script.specs.Command.{Command, edit_text, burst}
-use Rattle.bk_script.specs.Script.{is_no_lf, ends_in_cr}
+use Rattle.bk_script.specs.Script.{is_no_lf, ends_in_cr, ScriptFault, too_long, bad_line, too_many}
+use Rattle.bk_script.specs.View.{script_fault}
 use Rattle.bk_script.specs.declared.stop.Stop.{Stop}
 use Rattle.bk_script.specs.declared.stop.Stop.TheVariants as stop
-use Rattle.bk_script.specs.declared.script.ScriptFault.{ScriptFault}
-use Rattle.bk_script.specs.declared.script.ScriptFault.TheVariants as fault
+use Rattle.bk_script.specs.declared.script.ScriptFault as code
 
 -- why a reader stopped: there is no reading, or memory ran out
 abbrev pub Stops : {Y : Type 0} → Stop → Option Y → Type 0
@@ -178,9 +178,9 @@ Outcome = Result (List Command) ScriptFault
 
 -- the commands so far with those of one more line, of this number: what it counts, where it has a reading
 abbrev pub added : Option (Option Command) → ℕ → List Command → Outcome
-added None number front = Err (fault.BadLine number)
+added None number front = Err (bad_line number)
 added (Some None) number front = Ok front
-added (Some (Some command)) number front = if nat_lt (length front) most_commands then Ok (front ++ command ∷ []) else Err fault.Many
+added (Some (Some command)) number front = if nat_lt (length front) most_commands then Ok (front ++ command ∷ []) else Err too_many
 
 abbrev pub and_then : Outcome → (List Command → Outcome) → Outcome
 and_then (Ok commands) go = go commands
@@ -193,15 +193,12 @@ lines_read number front (line ∷ lines) = and_then (added (line_of line) number
 
 -- the commands of the bytes, or the first fault
 unfoldable pub script_read : List ℕ → Outcome
-script_read bytes = if nat_lt most_script_bytes (length bytes) then Err fault.Long else lines_read 1 [] (lines_of bytes)
+script_read bytes = if nat_lt most_script_bytes (length bytes) then Err too_long else lines_read 1 [] (lines_of bytes)
 
 -- a call that answers this where memory does not run out
-abbrev pub Fails : ScriptFault → Outcome → Type 0
-Fails fault.Long read = read ≡ Err fault.Long
-Fails (fault.BadLine number) read = read ≡ Err (fault.BadLine number)
-Fails fault.Many read = read ≡ Err fault.Many
-Fails fault.NoMemory read = Unit {0}
+abbrev pub Fails : code.ScriptFault → Outcome → Type 0
+Fails e read = IfSome (script_fault e) (λ fault. read ≡ Err fault)
 
-abbrev pub Answers : {X : Type 0} → (X → List Command) → Result X ScriptFault → Outcome → Type 0
+abbrev pub Answers : {X : Type 0} → (X → List Command) → Result X code.ScriptFault → Outcome → Type 0
 Answers view (Ok x) read = read ≡ Ok (view x)
 Answers view (Err e) read = Fails e read

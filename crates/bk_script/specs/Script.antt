@@ -4,14 +4,13 @@
 --   IsLine     what one line counts: no command, or one that is built
 --   AreRead    what some lines count together
 --   IsScript   the bytes are a script of these commands
+--   ScriptFault  the faults
 --   IsFaultOf  the bytes have this fault
 use Rattle.std.specs.Prelude.{◌≡◌, ℕ, ◌+◌, ◌<◌, ◌≤◌, Bool, true, false, not, ◌==◌, IsTrue, List, [], ◌∷◌, ◌++◌, ◌⊎◌, length, Option, Some, None, IsUtf8}
 use Rattle.std.specs.List.{list_all}
 use Rattle.xt_spec.specs.Limit.{most_commands, most_script_bytes}
 use Rattle.bk_script.specs.Word.{IsBlank, AreSpelled}
 use Rattle.bk_script.specs.Command.{Command, IsCommandLine, is_built}
-use Rattle.bk_script.specs.declared.script.ScriptFault.{ScriptFault}
-use Rattle.bk_script.specs.declared.script.ScriptFault.TheVariants.{Long, BadLine, Many, NoMemory}
 
 abbrev pub is_no_lf : ℕ → Bool
 is_no_lf b = not (b == 0xA)
@@ -69,14 +68,19 @@ pub record IsReadTo (bytes : List ℕ) (before : List (List ℕ)) (line : List �
   pub size : length bytes ≤ most_script_bytes
   pub count : length commands ≤ most_commands
 
--- Long: more than 1,048,576 bytes. BadLine: the first line that isn't UTF-8, has no reading or whose command isn't
--- built, with its number from 1. Many: the line with the 4,097th command. Of the last two the one that comes first.
+-- why bytes are no script: they are too many; a line has no reading, by its number from 1; the commands are too many
+pub data ScriptFault : Type 0 where
+  too_long : ScriptFault
+  bad_line : (number : ℕ) → ScriptFault
+  too_many : ScriptFault
+
+-- too_long: more than 1,048,576 bytes. bad_line: the first line that isn't UTF-8, has no reading or whose command isn't
+-- built. too_many: the line with the 4,097th command. Of the last two the one that comes first.
 abbrev pub IsFaultOf : List ℕ → ScriptFault → Type 0
-IsFaultOf bytes Long = most_script_bytes < length bytes
-IsFaultOf bytes (BadLine number) =
+IsFaultOf bytes too_long = most_script_bytes < length bytes
+IsFaultOf bytes (bad_line number) =
     (before : List (List ℕ)) × (line : List ℕ) × (commands : List Command) × IsReadTo bytes before line commands
     × ((found : Option Command) → ¬ IsLine line found) × (number ≡ length before + 1)
-IsFaultOf bytes Many =
+IsFaultOf bytes too_many =
     (before : List (List ℕ)) × (line : List ℕ) × (commands : List Command) × IsReadTo bytes before line commands
     × (length commands ≡ most_commands) × ((command : Command) × IsLine line (Some command))
-IsFaultOf bytes NoMemory = Unit {0}

@@ -8,7 +8,7 @@
 --   IsWord        one word of a command
 --   AreWords      words with spaces between
 use Rattle.std.specs.Prelude.{◌≡◌, ◌≢◌, ℕ, ◌≤◌, Bool, true, false, not, ◌&&◌, ◌||◌, ◌==◌, IsTrue, List, [], ◌∷◌, ◌++◌, ◌⊎◌, length, replicate, codes, encode_utf8}
-use Rattle.std.specs.List.{list_all, concat, AllByRecursion}
+use Rattle.std.specs.List.{list_all, concat}
 use Rattle.xt_spec.specs.Char.{is_within}
 use Rattle.xt_spec.specs.Name.{IsQName}
 use Rattle.xt_spec.specs.Reference.{is_decimal_digit, is_hexadecimal_digit, AreDigits}
@@ -46,10 +46,6 @@ IsStep text n = (digits : List ℕ) × IsNumber digits n × (n ≢ 0) × (text �
 pub record Place : Type 0 where
   pub numbers : List ℕ
   pub carets : ℕ
-
--- the numbers of a place: at least one, and each from 1
-abbrev pub ArePlaceNumbers : List ℕ → Type 0
-ArePlaceNumbers numbers = (numbers ≢ []) × AllByRecursion (λ n. 1 ≤ n) numbers
 
 -- PLACE: one step or more, then any number of `^`
 abbrev pub IsPlace : List ℕ → Place → Type 0

@@ -1,12 +1,12 @@
 //! What a line asks for.
 
-use crate::op::Op;
+use ed_edit::Edit;
 
 /// A command that is built.
 #[derive(Debug, Drop)]
 pub enum Command {
     /// An edit.
-    Edit(Op),
+    Edit(Edit),
     /// Save: `burst`.
     Burst,
 }

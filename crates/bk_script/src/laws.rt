@@ -4,10 +4,8 @@ ghost use Rattle.std.specs.Prelude.{◌≡◌, ℕ, List, [], ◌∷◌, ◌++�
 ghost use Rattle.std.specs.List.{list_all};
 ghost use Rattle.xt_spec.specs.Name.{IsSpeltBy};
 ghost use Rattle.bk_script.specs.Command.{Command, IsCommandLine};
-ghost use Rattle.bk_script.specs.Script.{IsComment, IsScript, IsFaultOf};
+ghost use Rattle.bk_script.specs.Script.{IsComment, IsScript, ScriptFault, IsFaultOf};
 ghost use Rattle.bk_script.specs.Word.{IsBlank, IsString, is_plain};
-ghost use Rattle.bk_script.specs.declared.script.ScriptFault.{ScriptFault};
-ghost use Rattle.bk_script.specs.declared.script.ScriptFault.TheVariants.{NoMemory};
 
 /// A line is at most one command, of all that the grammar has, and then it is neither blank nor a comment.
 pub fn one_command()
@@ -25,10 +23,10 @@ pub fn one_value()
 /// Bytes are a script of at most one list of commands, and then they have no fault.
 pub fn one_script()
     ensures one { (bytes : List ℕ) (a b : List Command) → IsScript bytes a → IsScript bytes b → a ≡ b }
-    ensures fault { (bytes : List ℕ) (a : List Command) (e : ScriptFault) → IsScript bytes a → IsFaultOf bytes e → e ≡ NoMemory }
+    ensures fault { (bytes : List ℕ) (a : List Command) (e : ScriptFault) → IsScript bytes a → IsFaultOf bytes e → ⊥ }
 {}
 
-/// Bytes have at most one fault beside want of memory.
+/// Bytes have at most one fault.
 pub fn one_fault()
-    ensures one { (bytes : List ℕ) (d e : ScriptFault) → IsFaultOf bytes d → IsFaultOf bytes e → (d ≡ NoMemory) ⊎ ((e ≡ NoMemory) ⊎ (d ≡ e)) }
+    ensures one { (bytes : List ℕ) (d e : ScriptFault) → IsFaultOf bytes d → IsFaultOf bytes e → d ≡ e }
 {}

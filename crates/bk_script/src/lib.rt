@@ -7,7 +7,6 @@ mod front;
 mod laws;
 mod line;
 mod number;
-mod op;
 mod place;
 mod script;
 mod stop;
@@ -15,6 +14,4 @@ mod string;
 
 pub use command::Command;
 pub use laws::{one_command, one_fault, one_script, one_value};
-pub use op::Op;
-pub use place::Place;
 pub use script::{ScriptFault, read_script};

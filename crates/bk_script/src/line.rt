@@ -3,16 +3,16 @@
 ghost use Rattle.std.specs.Prelude.{◌≡◌, option_map};
 ghost use Rattle.std.specs.List.{list_all};
 ghost use Rattle.bk_script.specs.Reading.{Gives, is_passed_over, number_of, last_string_at, text_at, command_at, line_of};
-ghost use Rattle.bk_script.specs.View.{edit_of, command_of};
+ghost use Rattle.bk_script.specs.View.{edit_command, command_of};
 ghost use Rattle.bk_script.specs.Word as words;
 
 use crate::command::Command;
 use crate::front::{after_blanks, next_word};
 use crate::number::number_of;
-use crate::op::Op;
-use crate::place::Place;
+use crate::place::place_of;
 use crate::stop::Stop;
 use crate::string::string_at;
+use ed_edit::Edit;
 use std::alloc::Global;
 use xt_lex::text_of;
 use xt_table::Txt;
@@ -48,17 +48,17 @@ fn last_string(alloc: Global, text: &str) -> Result<Txt, Stop>
 
 /// What stands behind `text`: PLACE N N STRING.
 #[tactic(auto, unfolding(crate::specs::Reading::text_at))]
-fn text_at(alloc: Global, text: &str) -> Result<Op, Stop>
-    ensures { Gives edit_of result (text_at text.now) }
+fn text_at(alloc: Global, text: &str) -> Result<Edit, Stop>
+    ensures { Gives edit_command result (text_at text.now) }
 {
     let (place, rest) = next_word(text);
     let (from, rest) = next_word(rest);
     let (to, rest) = next_word(rest);
-    let place = Place::read(alloc, place)?;
+    let place = place_of(alloc, place)?;
     let from = number(from)?;
     let to = number(to)?;
     let value = last_string(alloc, rest)?;
-    Ok(Op::Text {
+    Ok(Edit::Text {
         place,
         from,
         to,

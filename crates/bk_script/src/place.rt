@@ -5,29 +5,11 @@ ghost use Rattle.std.specs.Option.{option_copied};
 ghost use Rattle.xt_spec.specs.Reference.{is_decimal_digit};
 ghost use Rattle.xt_lex.specs.Scan.{take_while, drop_while, after};
 ghost use Rattle.bk_script.specs.Reading.{Gives, step_at, parts_of, place_of};
-ghost use Rattle.bk_script.specs.Word.{ArePlaceNumbers};
 
 use crate::number::{decimal_len, number_of};
 use crate::stop::Stop;
 use std::alloc::Global;
-use std::marker::Model;
-
-/// A place of the printed tree: `/2/1` is the first child of the second node at the top. Contracts see its numbers.
-#[derive(Debug, Drop)]
-pub struct Place {
-    numbers: Vec<u32>,
-}
-
-impl Model for Place {
-    ghost use Rattle.std.specs.Prelude.{List, ℕ};
-    ghost use Rattle.bk_script.specs.Word.{ArePlaceNumbers};
-
-    ghost Value = { List ℕ };
-
-    ghost view = { λ p. p.numbers.items };
-
-    ghost invariant = { λ p. ArePlaceNumbers p.numbers.items };
-}
+use xt_table::Seq;
 
 /// The digits at the front, and what follows them.
 fn split_digits(bytes: &[u8]) -> (&[u8], &[u8])
@@ -71,24 +53,14 @@ fn steps(alloc: Global, text: &[u8]) -> Result<(Vec<u32>, &[u8]), Stop>
     Ok((numbers, rest))
 }
 
-impl Place {
-    /// The place that the word is.
-    #[tactic(auto, unfolding(crate::specs::Reading::place_of))]
-    pub(crate) fn read(alloc: Global, word: &[u8]) -> Result<Place, Stop>
-        ensures value { Gives (λ p. p) result (place_of word.now) }
-    {
-        let (numbers, rest) = steps(alloc, word)?;
-        if numbers.is_empty() || !rest.is_empty() {
-            return Err(Stop::NoReading);
-        }
-        Ok(Place { numbers })
+/// The numbers of the place that the word is.
+#[tactic(auto, unfolding(crate::specs::Reading::place_of))]
+pub(crate) fn place_of(alloc: Global, word: &[u8]) -> Result<Seq<u32>, Stop>
+    ensures value { Gives (λ p. p) result (place_of word.now) }
+{
+    let (numbers, rest) = steps(alloc, word)?;
+    if numbers.is_empty() || !rest.is_empty() {
+        return Err(Stop::NoReading);
     }
-
-    /// The numbers, from 1: which child each step takes. There is at least one.
-    pub fn numbers(&self) -> &[u32]
-        ensures value { result.now ≡ self.now }
-        ensures keeps { ArePlaceNumbers self.now }
-    {
-        self.numbers.as_slice()
-    }
+    Ok(Seq::from_vec(numbers))
 }

@@ -1,12 +1,12 @@
 //! Scripts.
 
-ghost use Rattle.std.specs.Prelude.{◌≡◌, ◌+◌, ◌≤◌, IfOk, IfErr, map, Some, [], List, length, option_map};
+ghost use Rattle.std.specs.Prelude.{◌≡◌, ◌+◌, ◌≤◌, IfOk, IfErr, IfSome, map, Some, [], List, length, option_map};
 ghost use Rattle.xt_spec.specs.Limit.{most_script_bytes};
 ghost use Rattle.bk_script.specs.Command as model;
 ghost use Rattle.bk_script.specs.declared.script.ScriptFault.TheVariants.{NoMemory};
 ghost use Rattle.bk_script.specs.Reading.{Answers, added, ended_line_at, without_cr, line_of, lines_of, lines_read, script_read};
 ghost use Rattle.bk_script.specs.Script.{IsScript, IsFaultOf};
-ghost use Rattle.bk_script.specs.View.{command_of};
+ghost use Rattle.bk_script.specs.View.{command_of, script_fault};
 
 use crate::command::Command;
 use crate::line::line_of;
@@ -106,7 +106,7 @@ fn read(alloc: Global, bytes: &[u8]) -> Result<Vec<Command>, ScriptFault>
 /// The commands of a script, in the order of their lines, or its first fault.
 pub fn read_script(alloc: Global, bytes: &[u8]) -> Result<Vec<Command>, ScriptFault>
     ensures value { IfOk result (λ v. IsScript bytes.now (map command_of v.items)) }
-    ensures fault { IfErr result (λ e. IsFaultOf bytes.now e) }
+    ensures fault { IfErr result (λ e. IfSome (script_fault e) (IsFaultOf bytes.now)) }
     // What is a script is read.
     ensures only { IfErr result (λ e. (commands : List model.Command) → IsScript bytes.now commands → e ≡ NoMemory) }
 {

@@ -1,6 +1,7 @@
 //! Tables of scripts: what each asks for, or its fault, by the rules of the format.
 
-use bk_script::{Command, Op, ScriptFault, read_script};
+use bk_script::{Command, ScriptFault, read_script};
+use ed_edit::Edit;
 use std::alloc::Global;
 use std::test::Fail;
 
@@ -20,14 +21,14 @@ fn written(alloc: Global, commands: &[Command]) -> Result<String, Fail> {
         match command {
             Command::Burst => out.push_str("burst;")?,
             Command::Edit(
-                Op::Text {
+                Edit::Text {
                     place,
                     from,
                     to,
                     value,
                 },
             ) => {
-                for number in place.numbers() {
+                for number in place.as_slice() {
                     out.push_str(format!(in alloc; "/{number}")?.as_str())?;
                 }
                 out.push_str(format!(in alloc; " {from} {to} ")?.as_str())?;

@@ -1,10 +1,9 @@
 -- Words, script and files give an output.
-use Rattle.std.proofs.Common.{◌≡◌, ◌≤◌, ◌+◌, ◌⊎◌, ℕ, List, [], ◌∷◌, ◌++◌, Bool, true, false, ltb, length, refl, sym, ◌∙◌, ap, subst, Option, Some, None, Ok, Err, inl, inr, codes}
+use Rattle.std.proofs.Common.{◌≡◌, ◌≤◌, ◌+◌, ◌⊎◌, ℕ, List, [], ◌∷◌, ◌++◌, Bool, true, false, ltb, length, refl, sym, subst, Option, Some, None, Ok, Err, inl, inr}
 use Rattle.std.specs.Prelude.{if◌then◌else◌}
 use Rattle.std.specs.Str.{chars}
-use Rattle.std.specs.Fmt.{decimal}
 use Rattle.std.proofs.lemmas.Bool.{cases_Bool, eqb-true, ltb-true, ltb-false}
-use Rattle.xt_spec.specs.Limit.{most_commands, most_file_bytes, most_script_bytes}
+use Rattle.xt_spec.specs.Limit.{most_file_bytes}
 use Rattle.xt_spec.specs.Tree.{Items}
 use Rattle.bk_spec.specs.Fault.{Fault, missing, too_large, fault_line}
 use Rattle.bk_spec.specs.FirstFault.{IsRootFault, absent, longer, faulty}
@@ -15,15 +14,13 @@ use Rattle.ed_spec.specs.Session.{Command, Step, edit, burst}
 use Rattle.bk_desk.specs.Disk.{DiskImage}
 use Rattle.bk_script.specs.Command as script
 use Rattle.bk_script.specs.Script.{AreRead, IsScript}
-use Rattle.bk_script.specs.Reading.{line_of, Outcome, added, and_then, lines_read, lines_of, script_read}
-use Rattle.bk_script.specs.declared.script.ScriptFault.{ScriptFault}
-use Rattle.bk_script.specs.declared.script.ScriptFault.TheVariants.{Long, BadLine, Many, NoMemory}
+use Rattle.bk_script.specs.Reading.{Outcome, script_read}
 use Rattle.bk_script.proofs.Theorems.{script_takes, fault_takes}
 use Rattle.jr_burst.specs.SavedFiles.{recovered_files}
 use Rattle.bk_run.specs.Replies.{IsCommandOf, AreCommandsOf, replies_text, any_refused}
 use Rattle.bk_run.proofs.Theorems.{opened_runs}
 use Rattle.book_cli.specs.Words.{root_of}
-use Rattle.book_cli.specs.Output.{usage_line, journal_line, IsScriptLine, status_after, IsRun, closed, ran, ScriptOutput, no_script, damaged, recovered, RootOutput, IsOutput}
+use Rattle.book_cli.specs.Output.{usage_line, journal_line, script_fault_line, status_after, IsRun, closed, ran, ScriptOutput, no_script, damaged, recovered, RootOutput, IsOutput}
 use Rattle.book_cli.specs.Leaves.{RecoveredBook}
 use Rattle.book_cli.proofs.OutputLemmas.{tree_exists}
 
@@ -57,46 +54,6 @@ read_asks (line ∷ lines) commands (Some command, others, is, read, joined) =
     let (one, asks_one) = built_asks command is.2 in
     let (asked, asks) = read_asks lines others read in
     (one ∷ asked, subst (λ (l : List script.Command). AreCommandsOf l (one ∷ asked)) (sym joined) (asks_one, asks))
-
--- ---- the fault of a script
-
--- reading lines is not a matter of memory
-added_never_out : (found : Option (Option script.Command)) (number : ℕ) (front : List script.Command) → added found number front ≡ Err NoMemory → ⊥
-added_never_out None number front is = absurd (cc)
-added_never_out (Some None) number front is = absurd (cc)
-added_never_out (Some (Some command)) number front is =
-    elim (cases_Bool (ltb (length front) most_commands)) [
-      | inl lt ↦ let bad : ◌≡◌ {A = Outcome} (Ok (front ++ command ∷ [])) (Err NoMemory) = rw lt at is in absurd (cc)
-      | inr ge ↦ let bad : ◌≡◌ {A = Outcome} (Err Many) (Err NoMemory) = rw ge at is in absurd (cc)
-    ]
-
-out_here_or_later : (read : Outcome) (go : List script.Command → Outcome) → and_then read go ≡ Err NoMemory → (read ≡ Err NoMemory) ⊎ ((next : List script.Command) × (go next ≡ Err NoMemory))
-out_here_or_later (Ok next) go is = inr (next, is)
-out_here_or_later (Err fault) go is = inl is
-
-never_out : (number : ℕ) (front : List script.Command) (lines : List (List ℕ)) → lines_read number front lines ≡ Err NoMemory → ⊥
-unfolding lines_read
-never_out number front [] is = absurd (cc)
-never_out number front (line ∷ lines) is =
-    elim (out_here_or_later (added (line_of line) number front) (λ next. lines_read (number + 1) next lines) is) [
-      | inl here ↦ added_never_out (line_of line) number front here
-      | inr later ↦ never_out (number + 1) later.0 lines later.1
-    ]
-
-script_never_out : (bytes : List ℕ) → script_read bytes ≡ Err NoMemory → ⊥
-unfolding script_read
-script_never_out bytes is =
-    elim (cases_Bool (ltb most_script_bytes (length bytes))) [
-      | inl long ↦ let bad : ◌≡◌ {A = Outcome} (Err Long) (Err NoMemory) = rw long at is in absurd (cc)
-      | inr short ↦ never_out 1 [] (lines_of bytes) (rw short at is)
-    ]
-
--- so it has a line
-line_exists : (fault : ScriptFault) → (fault ≡ NoMemory → ⊥) → (text : List ℕ) × IsScriptLine fault text
-line_exists Long never = (codes "fault script long\n", refl)
-line_exists (BadLine number) never = (codes "fault script line " ++ decimal number ++ codes "\n", refl)
-line_exists Many never = (codes "fault script commands\n", refl)
-line_exists NoMemory never = absurd (never refl)
 
 -- ---- over a book whose root opens
 
@@ -161,9 +118,7 @@ script_output root bytes files = by (script_read bytes) refl
 
     by : (read : Outcome) → script_read bytes ≡ read → (status : ℕ) × (text : List ℕ) × ScriptOutput root bytes files status text
     by (Ok commands) is = over commands (script_takes bytes commands is) (recovered_files files) refl
-    by (Err fault) is =
-        let (text, line) = line_exists fault (λ out. script_never_out bytes (is ∙ ap (λ (f : ScriptFault). Err f) out)) in
-        (4, text, no_script fault (fault_takes bytes fault is) line refl)
+    by (Err fault) is = (4, script_fault_line fault, no_script fault (fault_takes bytes fault is) refl refl)
 
 -- there is an output, whatever words, script and files are
 pub output_exists : (words : List (List ℕ)) (bytes : List ℕ) (files : DiskImage) → (status : ℕ) × (text : List ℕ) × IsOutput words bytes files status text

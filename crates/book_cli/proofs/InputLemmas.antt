@@ -1,19 +1,18 @@
 -- Runs that recover no book, and what is read of a script.
-use Rattle.std.proofs.Common.{◌+◌, ◌≡◌, ◌<◌, ◌∙◌, ◌⊎◌, ℕ, List, [], ◌++◌, true, false, Option, Some, length, refl, sym, ap, subst, arith, inl, inr, ⊎_elim, length-append}
-use Rattle.std.specs.Prelude.{IsTrue}
+use Rattle.std.proofs.Common.{◌+◌, ◌≡◌, ◌<◌, ◌∙◌, ◌⊎◌, ℕ, List, [], ◌++◌, true, false, Option, Some, None, length, refl, sym, ap, subst, arith, inl, inr, ⊎_elim, length-append}
+use Rattle.std.specs.Prelude.{IsTrue, IfSome, option_map}
 use Rattle.std.proofs.lemmas.List.{append-nil}
 use Rattle.bk_desk.specs.Disk.{DiskImage, DiskState, CrashState, IsCrashState, WhileTelling}
 use Rattle.bk_desk.specs.CrashPoints.{AtEachCrash}
 use Rattle.bk_desk.proofs.Theorems.{started, weaker}
 use Rattle.bk_script.specs.Command as script
-use Rattle.bk_script.specs.Script.{IsScript, IsFaultOf}
-use Rattle.bk_script.specs.declared.script.ScriptFault.{ScriptFault}
+use Rattle.bk_script.specs.Script.{IsScript, ScriptFault, too_long, bad_line, too_many, IsFaultOf}
+use Rattle.bk_script.specs.View.{script_fault}
+use Rattle.bk_script.specs.declared.script.ScriptFault as code
 use Rattle.bk_script.specs.declared.script.ScriptFault.TheVariants.{Long, BadLine, Many, NoMemory}
-use Rattle.std.specs.Fmt.{decimal}
-use Rattle.std.specs.Prelude.{codes}
 use Rattle.xt_spec.specs.Limit.{most_script_bytes}
 use Rattle.bk_run.specs.Input.{IsInput}
-use Rattle.book_cli.specs.Output.{IsScriptLine, RootOutput, no_script}
+use Rattle.book_cli.specs.Output.{script_fault_line, RootOutput, no_script}
 use Rattle.book_cli.specs.Leaves.{is_still, recovers_book, MayCrashIn, early, still, TakesRunSteps}
 use Rattle.book_cli.specs.Ends.{IsToldWith, IsRunOver}
 use Rattle.book_cli.proofs.RunLemmas.{not_whole, not_over, told_output, told_prefix, ended}
@@ -37,15 +36,18 @@ input_script left bytes after commands is reads =
     let fits = reads.size in
     subst (λ (l : List ℕ). IsScript l commands) (all_read (most_script_bytes + 1) left bytes after is (omega (arith, fits))) reads
 
-pub input_fault : (left bytes : List ℕ) (after : Option (List ℕ)) (fault : ScriptFault) → IsInput (most_script_bytes + 1) left after bytes → IsFaultOf bytes fault → IsFaultOf left fault
-input_fault left bytes after Long is has = omega (arith, has, ap length is.parts, length-append bytes is.rest)
-input_fault left bytes after (BadLine number) is has =
+input_fault : (left bytes : List ℕ) (after : Option (List ℕ)) (fault : ScriptFault) → IsInput (most_script_bytes + 1) left after bytes → IsFaultOf bytes fault → IsFaultOf left fault
+input_fault left bytes after too_long is has = omega (arith, has, ap length is.parts, length-append bytes is.rest)
+input_fault left bytes after (bad_line number) is has =
     let fits = has.3.size in
-    subst (λ (l : List ℕ). IsFaultOf l (BadLine number)) (all_read (most_script_bytes + 1) left bytes after is (omega (arith, fits))) has
-input_fault left bytes after Many is has =
+    subst (λ (l : List ℕ). IsFaultOf l (bad_line number)) (all_read (most_script_bytes + 1) left bytes after is (omega (arith, fits))) has
+input_fault left bytes after too_many is has =
     let fits = has.3.size in
-    subst (λ (l : List ℕ). IsFaultOf l Many) (all_read (most_script_bytes + 1) left bytes after is (omega (arith, fits))) has
-input_fault left bytes after NoMemory is has = tt
+    subst (λ (l : List ℕ). IsFaultOf l too_many) (all_read (most_script_bytes + 1) left bytes after is (omega (arith, fits))) has
+
+pub some_input_fault : (left bytes : List ℕ) (after : Option (List ℕ)) (fault : Option ScriptFault) → IsInput (most_script_bytes + 1) left after bytes → IfSome fault (IsFaultOf bytes) → IfSome fault (IsFaultOf left)
+some_input_fault left bytes after None is has = tt
+some_input_fault left bytes after (Some fault) is has = input_fault left bytes after fault is has
 
 -- ---- no step
 
@@ -95,16 +97,17 @@ module _ {D : Type 0} (standing : D → DiskState) (time : D → ℕ) (was : D �
     others = λ nothing. refl;
   }
 
-  pub fault_run : (root left : List ℕ) (fault : ScriptFault) (old new : D) (answer : ℕ) → ((crash : CrashState) → was old (time old) crash → IsCrashState (standing old) crash) → IsFaultOf left fault
-      → (fault ≡ NoMemory → (answer ≡ 7) × (new ≡ old)) → ((text : List ℕ) → IsScriptLine fault text → IsToldWith 4 text (standing old) (standing new) (AtEachCrash time was old new) answer)
+  told_fault : (root left : List ℕ) (fault : ScriptFault) (old new : D) (answer : ℕ) → IsFaultOf left fault → IsToldWith 4 (script_fault_line fault) (standing old) (standing new) (AtEachCrash time was old new) answer
       → IsRunOver (Some root) left (standing old) (standing new) (AtEachCrash time was old new) answer
-  fault_run root left Long old new answer only_now has none told =
-      still_run (Some root) left (codes "fault script long\n") 4 answer old new (no_script Long has refl refl) refl four_recovers_none (told (codes "fault script long\n") refl)
-  fault_run root left (BadLine number) old new answer only_now has none told =
-      let text : List ℕ = codes "fault script line " ++ decimal number ++ codes "\n" in
-      still_run (Some root) left text 4 answer old new (no_script (BadLine number) has refl refl) refl four_recovers_none (told text refl)
-  fault_run root left Many old new answer only_now has none told =
-      still_run (Some root) left (codes "fault script commands\n") 4 answer old new (no_script Many has refl refl) refl four_recovers_none (told (codes "fault script commands\n") refl)
+  told_fault root left fault old new answer has told = still_run (Some root) left (script_fault_line fault) 4 answer old new (no_script fault has refl refl) refl four_recovers_none told
+
+  pub fault_run : (root left : List ℕ) (fault : code.ScriptFault) (old new : D) (answer : ℕ) → ((crash : CrashState) → was old (time old) crash → IsCrashState (standing old) crash) → IfSome (script_fault fault) (IsFaultOf left)
+      → (fault ≡ NoMemory → (answer ≡ 7) × (new ≡ old))
+      → ((text : List ℕ) → option_map script_fault_line (script_fault fault) ≡ Some text → IsToldWith 4 text (standing old) (standing new) (AtEachCrash time was old new) answer)
+      → IsRunOver (Some root) left (standing old) (standing new) (AtEachCrash time was old new) answer
+  fault_run root left Long old new answer only_now has none told = told_fault root left too_long old new answer has (told _ refl)
+  fault_run root left (BadLine number) old new answer only_now has none told = told_fault root left (bad_line number) old new answer has (told _ refl)
+  fault_run root left Many old new answer only_now has none told = told_fault root left too_many old new answer has (told _ refl)
   fault_run root left NoMemory old new answer only_now has none told =
       let quiet = none refl in
       subst (λ (n : ℕ). IsRunOver (Some root) left (standing old) (standing new) (AtEachCrash time was old new) n) (sym quiet.0)

@@ -9,11 +9,12 @@ use Rattle.ed_laws.specs.LocalSteps.{AreLocalSteps}
 use Rattle.ed_laws.proofs.Theorems.{local_steps}
 use Rattle.bk_script.specs.Command as script
 use Rattle.bk_script.specs.Script.{IsScript}
+use Rattle.bk_script.proofs.Theorems.{no_fault}
 use Rattle.bk_run.specs.Replies.{AreCommandsOf}
 use Rattle.book_cli.specs.Output.{IsBookRun, closed, ran, ScriptOutput, no_script, damaged, recovered, RootOutput, is_book_status, is_script_status, is_exit_status, WritesPrefix}
 use Rattle.book_cli.specs.Leaves.{RecoveredBook, recovers_book}
 use Rattle.book_cli.specs.Ends.{AnswersWith, whole, cut, EndsBy, output, source, IsLocalRun}
-use Rattle.book_cli.proofs.OutputLemmas.{none_some, no_both}
+use Rattle.book_cli.proofs.OutputLemmas.{none_some}
 use Rattle.book_cli.proofs.ExistLemmas.{read_asks}
 use Rattle.book_cli.proofs.EndLemmas.{ends_output, ends_durable}
 
@@ -27,7 +28,7 @@ book_steps root bytes commands book steps last status reads (ran run is) = (run.
 
 script_steps : (root bytes : List ℕ) (start now : DiskState) (answer status : ℕ) (text : List ℕ) → ScriptOutput root bytes start.files status text → AnswersWith status text start.told now.told answer
     → RecoveredBook (Some root) bytes start.files → IsLocalRun (Some root) bytes start now answer
-script_steps root bytes start now answer status text (no_script fault has line is) told of = absurd (no_both bytes of.commands fault text of.reads has line)
+script_steps root bytes start now answer status text (no_script fault has line is) told of = absurd (no_fault bytes of.commands fault of.reads has)
 script_steps root bytes start now answer status text (damaged commands reads none _ _) told of = absurd (none_some Book of.book (recovered_files start.files) none of.found)
 script_steps root bytes start now answer status text (recovered commands book reads found (steps, last, run, same)) told of =
     let (asked, asks, local) = book_steps root bytes commands book steps last status reads run in

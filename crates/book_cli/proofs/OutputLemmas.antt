@@ -1,5 +1,5 @@
 -- Words, script and files give one output.
-use Rattle.std.proofs.Common.{◌≡◌, ◌∙◌, ℕ, ◌<◌, ◌≤◌, List, [], ◌∷◌, ◌++◌, length, arith, refl, sym, ap, ap₂, subst, Option, Some, None, inl, inr}
+use Rattle.std.proofs.Common.{◌≡◌, ◌∙◌, ℕ, ◌<◌, ◌≤◌, List, [], ◌∷◌, ◌++◌, length, arith, refl, sym, ap, ap₂, subst, Option, Some, None}
 use Rattle.xt_spec.specs.Limit.{most_file_bytes}
 use Rattle.xt_spec.specs.Tree.{Items}
 use Rattle.bk_spec.specs.Node.{Nodes}
@@ -13,14 +13,11 @@ use Rattle.ed_spec.specs.Session.{Session, Command, Reply, Step, opened, Does, a
 use Rattle.ed_laws.proofs.Theorems.{one_run}
 use Rattle.bk_desk.specs.Disk.{DiskImage}
 use Rattle.bk_script.specs.Command as script
-use Rattle.bk_script.specs.Script.{IsScript, IsFaultOf}
-use Rattle.bk_script.specs.declared.script.ScriptFault.{ScriptFault}
-use Rattle.bk_script.specs.declared.script.ScriptFault.TheVariants.{Long, BadLine, Many, NoMemory}
 use Rattle.bk_script.proofs.Theorems.{one_reading, no_fault, one_fault}
 use Rattle.jr_burst.specs.SavedFiles.{recovered_files}
 use Rattle.bk_run.specs.Replies.{IsCommandOf, AreCommandsOf, replies_text}
 use Rattle.book_cli.specs.Words.{root_of}
-use Rattle.book_cli.specs.Output.{IsScriptLine, IsTree, status_after, IsRun, IsBookRun, closed, ran, BookOutput, ScriptOutput, no_script, damaged, recovered, RootOutput, IsOutput}
+use Rattle.book_cli.specs.Output.{script_fault_line, IsTree, status_after, IsRun, IsBookRun, closed, ran, BookOutput, ScriptOutput, no_script, damaged, recovered, RootOutput, IsOutput}
 
 pub some_same : (A : Type 0) (a b : A) (found : Option A) → found ≡ Some a → found ≡ Some b → a ≡ b
 some_same A a b found first second = let e : ◌≡◌ {A = Option A} (Some a) (Some b) = sym first ∙ second in cc
@@ -147,32 +144,13 @@ book_unique root commands book s t x y (xs, first, run, text) (ys, second, more,
     let one = one_book_run root commands book xs ys first second s t run more in
     (one.status_is, text ∙ ap₂ (λ (l : List Step) (u : List ℕ). replies_text l ++ u) one.steps_are one.last_is ∙ sym other)
 
-line_once : (fault : ScriptFault) (x y : List ℕ) → IsScriptLine fault x → IsScriptLine fault y → x ≡ y
-line_once Long x y first second = first ∙ sym second
-line_once (BadLine number) x y first second = first ∙ sym second
-line_once Many x y first second = first ∙ sym second
-line_once NoMemory x y first second = absurd first
-
-no_line : (fault : ScriptFault) (text : List ℕ) → fault ≡ NoMemory → IsScriptLine fault text → ⊥
-no_line fault text is line = subst (λ (f : ScriptFault). IsScriptLine f text) is line
-
-fault_lines : (bytes : List ℕ) (d e : ScriptFault) (x y : List ℕ) → IsFaultOf bytes d → IsFaultOf bytes e → IsScriptLine d x → IsScriptLine e y → x ≡ y
-fault_lines bytes d e x y first second line other = elim (one_fault bytes d e first second) [
-  | inl none ↦ absurd (no_line d x none line)
-  | inr (inl none) ↦ absurd (no_line e y none other)
-  | inr (inr same) ↦ line_once e x y (subst (λ (f : ScriptFault). IsScriptLine f x) same line) other
-]
-
-pub no_both : (bytes : List ℕ) (commands : List script.Command) (fault : ScriptFault) (text : List ℕ) → IsScript bytes commands → IsFaultOf bytes fault → IsScriptLine fault text → ⊥
-no_both bytes commands fault text is has line = no_line fault text (no_fault bytes commands fault is has) line
-
 script_unique : (root bytes : List ℕ) (files : DiskImage) (s t : ℕ) (x y : List ℕ)
     → ScriptOutput root bytes files s x → ScriptOutput root bytes files t y → (s ≡ t) × (x ≡ y)
-script_unique root bytes files s t x y (no_script d has line is) (no_script e also other same) = (is ∙ sym same, fault_lines bytes d e x y has also line other)
-script_unique root bytes files s t x y (no_script d has line is) (damaged commands read _ _ _) = absurd (no_both bytes commands d x read has line)
-script_unique root bytes files s t x y (no_script d has line is) (recovered commands book read _ _) = absurd (no_both bytes commands d x read has line)
-script_unique root bytes files s t x y (damaged commands read _ _ _) (no_script d has line is) = absurd (no_both bytes commands d y read has line)
-script_unique root bytes files s t x y (recovered commands book read _ _) (no_script d has line is) = absurd (no_both bytes commands d y read has line)
+script_unique root bytes files s t x y (no_script d has line is) (no_script e also other same) = (is ∙ sym same, line ∙ ap script_fault_line (one_fault bytes d e has also) ∙ sym other)
+script_unique root bytes files s t x y (no_script d has line is) (damaged commands read _ _ _) = absurd (no_fault bytes commands d read has)
+script_unique root bytes files s t x y (no_script d has line is) (recovered commands book read _ _) = absurd (no_fault bytes commands d read has)
+script_unique root bytes files s t x y (damaged commands read _ _ _) (no_script d has line is) = absurd (no_fault bytes commands d read has)
+script_unique root bytes files s t x y (recovered commands book read _ _) (no_script d has line is) = absurd (no_fault bytes commands d read has)
 script_unique root bytes files s t x y (damaged _ _ _ is line) (damaged _ _ _ same other) = (is ∙ sym same, line ∙ sym other)
 script_unique root bytes files s t x y (damaged _ _ none _ _) (recovered _ book _ found _) = absurd (none_some Book book (recovered_files files) none found)
 script_unique root bytes files s t x y (recovered _ book _ found _) (damaged _ _ none _ _) = absurd (none_some Book book (recovered_files files) none found)

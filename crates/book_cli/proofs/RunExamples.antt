@@ -1,5 +1,5 @@
 -- The output of a run with commands, on right and on wrong cases.
-use Rattle.std.proofs.Common.{◌≡◌, ◌≢◌, Option, ℕ, List, [], ◌∷◌, ◌++◌, refl, sym, ap, arith, codes, true, false, Some, None, inl, inr}
+use Rattle.std.proofs.Common.{◌≡◌, ◌≢◌, Option, ℕ, List, [], ◌∷◌, ◌++◌, refl, ap, arith, codes, true, false, Some, None, inl, inr}
 use Rattle.std.proofs.lemmas.Fmt.{decimal_digit}
 use Rattle.std.specs.Str.{is_utf8, chars}
 use Rattle.std.proofs.Math.Utf8.{encode}
@@ -8,15 +8,13 @@ use Rattle.ed_spec.specs.Edit.{bad_range}
 use Rattle.ed_spec.specs.Session.{Session, done, refused}
 use Rattle.bk_desk.specs.declared.desk_name.DeskName.TheVariants as desk
 use Rattle.bk_desk.specs.Disk.{DiskImage, DiskState, CrashState, IsCrashImage}
-use Rattle.bk_script.specs.Script.{IsScript, IsFaultOf}
-use Rattle.bk_script.specs.declared.script.ScriptFault.{ScriptFault}
+use Rattle.bk_script.specs.Script.{IsScript, ScriptFault, bad_line, IsFaultOf}
 use Rattle.bk_script.specs.Reading.{command_at, line_of, lines_of, lines_read, parts_of, script_read, word_at}
-use Rattle.bk_script.specs.declared.script.ScriptFault.TheVariants.{BadLine, NoMemory}
 use Rattle.bk_script.proofs.Theorems.{script_takes, no_fault}
 use Rattle.jr_burst.specs.SavedFiles.{open_text}
 use Rattle.bk_spec.specs.Fault as fault
 use Rattle.bk_spec.specs.FirstFault as first
-use Rattle.book_cli.specs.Output.{usage_line, journal_line, IsScriptLine, status_after, closed, BookOutput, ScriptOutput, damaged, IsOutput, is_exit_status}
+use Rattle.book_cli.specs.Output.{usage_line, journal_line, script_fault_line, status_after, closed, BookOutput, ScriptOutput, damaged, IsOutput, is_exit_status}
 use Rattle.book_cli.specs.Leaves.{RecoveredBook, is_still, recovers_book, MayCrashIn, early, still, recovering, saving}
 use Rattle.book_cli.specs.Ends.{AnswersWith, whole, cut}
 use Rattle.book_cli.proofs.OutputLemmas.{none_some}
@@ -28,12 +26,9 @@ usage bytes files = (refl, refl)
 no_other : (bytes : List ℕ) (files : DiskImage) → IsOutput [] bytes files 3 usage_line → ⊥
 no_other bytes files output = let bad : ◌≡◌ {A = ℕ} 3 2 = output.0 in absurd (cc)
 
--- a fault of a script has one line, and want of memory none
-script_line : IsScriptLine (BadLine 2) (codes "fault script line 2\n")
-script_line = ap (λ (digits : List ℕ). codes "fault script line " ++ digits ++ codes "\n") (sym (decimal_digit 2 (omega arith)))
-
-no_line : (text : List ℕ) → IsScriptLine NoMemory text → ⊥
-no_line text line = line
+-- the line of a fault of a script
+script_line : script_fault_line (bad_line 2) ≡ codes "fault script line 2\n"
+script_line = ap (λ (digits : List ℕ). codes "fault script line " ++ digits ++ codes "\n") (decimal_digit 2 (omega arith))
 
 -- 1 where a command was refused
 accepted : (s : Session) → status_after (record { reply = done; session = s } ∷ []) ≡ 0
@@ -103,11 +98,11 @@ touches_none root bytes start crash never (still status text gives is at) = at.i
 touches_none root bytes start crash never (recovering of at) = absurd (never of)
 touches_none root bytes start crash never (saving of steps last status run at) = absurd (never of)
 
-no_script : (bytes : List ℕ) (fault : ScriptFault) → IsFaultOf bytes fault → (fault ≡ NoMemory → ⊥) → (files : DiskImage) (root : Option (List ℕ)) → RecoveredBook root bytes files → ⊥
-no_script bytes fault has other files root of = other (no_fault bytes of.commands fault of.reads has)
+no_script : (bytes : List ℕ) (fault : ScriptFault) → IsFaultOf bytes fault → (files : DiskImage) (root : Option (List ℕ)) → RecoveredBook root bytes files → ⊥
+no_script bytes fault has files root of = no_fault bytes of.commands fault of.reads has
 
 -- so a run that touches a file before its script is read is none
-touches_early : (root : Option (List ℕ)) (bytes name : List ℕ) (fault : ScriptFault) (start : DiskState) (crash : CrashState) → IsFaultOf bytes fault → (fault ≡ NoMemory → ⊥)
+touches_early : (root : Option (List ℕ)) (bytes name : List ℕ) (fault : ScriptFault) (start : DiskState) (crash : CrashState) → IsFaultOf bytes fault
     → start.pending (desk.Book name) ≡ false → crash.image (desk.Book name) ≢ start.files (desk.Book name) → MayCrashIn root bytes start crash → ⊥
-touches_early root bytes name fault start crash has other settled touched at =
-    touched (touches_none root bytes start crash (no_script bytes fault has other start.files root) at (desk.Book name) settled)
+touches_early root bytes name fault start crash has settled touched at =
+    touched (touches_none root bytes start crash (no_script bytes fault has start.files root) at (desk.Book name) settled)

@@ -20,9 +20,7 @@ use Rattle.ed_spec.specs.Book.{Book, Opens}
 use Rattle.ed_spec.specs.Session.{Session, Command, Step, opened, DoesAll}
 use Rattle.bk_desk.specs.Disk.{DiskImage}
 use Rattle.bk_script.specs.Command as script
-use Rattle.bk_script.specs.Script.{IsScript, IsFaultOf}
-use Rattle.bk_script.specs.declared.script.ScriptFault.{ScriptFault}
-use Rattle.bk_script.specs.declared.script.ScriptFault.TheVariants.{Long, BadLine, Many, NoMemory}
+use Rattle.bk_script.specs.Script.{IsScript, ScriptFault, too_long, bad_line, too_many, IsFaultOf}
 use Rattle.jr_burst.specs.SavedFiles.{recovered_files}
 use Rattle.book_cli.specs.Words.{root_of}
 use Rattle.bk_spec.specs.FirstFault.{IsRootFault}
@@ -37,12 +35,11 @@ journal_line = codes "fault journal\n"
 abbrev pub source_line : List ℕ
 source_line = codes "fault source\n"
 
--- the line of a script's fault; want of memory has none
-abbrev pub IsScriptLine : ScriptFault → List ℕ → Type 0
-IsScriptLine Long text = text ≡ codes "fault script long\n"
-IsScriptLine (BadLine number) text = text ≡ codes "fault script line " ++ decimal number ++ codes "\n"
-IsScriptLine Many text = text ≡ codes "fault script commands\n"
-IsScriptLine NoMemory text = ⊥
+-- the line of a script's fault
+abbrev pub script_fault_line : ScriptFault → List ℕ
+script_fault_line too_long = codes "fault script long\n"
+script_fault_line (bad_line number) = codes "fault script line " ++ decimal number ++ codes "\n"
+script_fault_line too_many = codes "fault script commands\n"
 
 -- the tree of a book with this root
 pub record IsTree (root : List ℕ) (book : Book) (text : List ℕ) : Type 0 where
@@ -74,7 +71,7 @@ BookOutput root commands book status text = (steps : List Step) × (last : List 
 
 -- 4 where the script has no reading, 8 where the journal under an open gate has none
 pub data ScriptOutput (root bytes : List ℕ) (files : DiskImage) (status : ℕ) (text : List ℕ) : Type 0 where
-  no_script : (fault : ScriptFault) → IsFaultOf bytes fault → IsScriptLine fault text → status ≡ 4 → ScriptOutput root bytes files status text
+  no_script : (fault : ScriptFault) → IsFaultOf bytes fault → text ≡ script_fault_line fault → status ≡ 4 → ScriptOutput root bytes files status text
   damaged : (commands : List script.Command) → IsScript bytes commands → recovered_files files ≡ None
       → status ≡ 8 → text ≡ journal_line → ScriptOutput root bytes files status text
   recovered : (commands : List script.Command) (book : Book) → IsScript bytes commands → recovered_files files ≡ Some book

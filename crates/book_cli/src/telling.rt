@@ -1,8 +1,9 @@
 //! A text is told, and the exit status that comes with it is the answer.
-ghost use Rattle.std.specs.Prelude.{◌≡◌, ◌≢◌, ◌⊎◌, ℕ, List, IsTrue, IfOk};
+ghost use Rattle.std.specs.Prelude.{◌≡◌, ◌≢◌, ◌⊎◌, ℕ, List, Some, IsTrue, IfOk, option_map};
 ghost use Rattle.bk_desk.specs.CrashPoints.{AtEachCrash};
 ghost use Rattle.bk_desk.specs.Cause.{HasCause};
-ghost use Rattle.book_cli.specs.Output.{IsScriptLine};
+ghost use Rattle.bk_script.specs.View.{script_fault};
+ghost use Rattle.book_cli.specs.Output.{script_fault_line};
 ghost use Rattle.book_cli.specs.Leaves.{KeepsFiles};
 ghost use Rattle.book_cli.specs.Ends.{IsToldWith};
 
@@ -33,7 +34,7 @@ pub(crate) fn tell<D: Desk>(desk: &mut D, text: &[u8], status: u8) -> u8
 
 /// The line of a script's fault; want of memory has none.
 fn script_line(alloc: Global, fault: ScriptFault) -> Result<Vec<u8>, AllocError>
-    ensures value { IfOk result (λ line. IsScriptLine fault line.items) }
+    ensures value { IfOk result (λ line. option_map script_fault_line (script_fault fault) ≡ Some line.items) }
 {
     match fault {
         ScriptFault::Long => Vec::from_slice(alloc, b"fault script long\n"),
@@ -48,7 +49,7 @@ pub(crate) fn tell_script_fault<D: Desk>(alloc: Global, fault: ScriptFault, desk
     ensures value { (result ≡ 4) ⊎ ((result ≡ 6) ⊎ (result ≡ 7)) }
     ensures same { fault ≡ ScriptFault.NoMemory → (result ≡ 7) × (desk.new ≡ desk.old) }
     ensures others { IsTrue D.tells → KeepsFiles (D.standing desk.old) (D.standing desk.new) }
-    ensures output { IsTrue D.tells → (text : List ℕ) → IsScriptLine fault text → IsToldWith 4 text (D.standing desk.old) (D.standing desk.new) (AtEachCrash D.time D.was desk.old desk.new) result }
+    ensures output { IsTrue D.tells → (text : List ℕ) → option_map script_fault_line (script_fault fault) ≡ Some text → IsToldWith 4 text (D.standing desk.old) (D.standing desk.new) (AtEachCrash D.time D.was desk.old desk.new) result }
     ensures cause_desk { HasCause (D.faults desk.old) (D.faults desk.new) (result ≡ 6) }
 {
     match script_line(alloc, fault) {

@@ -1,7 +1,6 @@
 -- What an edit of a session makes, and why it is refused; of this project. Which test refuses an edit, and what an accepted
 -- one makes, is said by `ed_spec` (`Edit`); ranges count characters from 0, and lengths are in bytes.
 --
---   edit_of       the edit that an operation of a script asks for
 --   refusal_of    the refusal that a variant of the code is
 --   IsNoTextAt    why a path, and IsNoText why a place, has no text to edit
 --   IsNoValue     why a range of a text does not give way to another text
@@ -12,24 +11,18 @@
 --   IsEdited      the session afterwards
 use Rattle.std.specs.Prelude.{◌≡◌, ◌⊎◌, ◌<◌, ◌≤◌, ℕ, List, length, true, false, Some, None}
 use Rattle.std.specs.List.{list_all}
-use Rattle.std.specs.Str.{chars}
 use Rattle.xt_spec.specs.Limit.{most_file_bytes}
 use Rattle.xt_spec.specs.Char.{is_char}
 use Rattle.xt_spec.specs.Tree.{Items, Item, source_text}
 use Rattle.xt_spec.specs.Paths.{item_at}
 use Rattle.ed_spec.specs.Place.{path_of}
 use Rattle.ed_spec.specs.Edit as spec
-use Rattle.ed_spec.specs.Edit.{Edit, text_edit, is_text, IsAt, IsInText, range_replaced, Refuses, Accepts}
-use Rattle.bk_script.specs.declared.op.Op.{Op}
-use Rattle.bk_script.specs.declared.op.Op.TheVariants as op
+use Rattle.ed_spec.specs.Edit.{Edit, is_text, IsAt, IsInText, range_replaced, Refuses, Accepts}
 use Rattle.ed_session.specs.declared.refusal.Refusal.{Refusal}
 use Rattle.ed_session.specs.declared.refusal.Refusal.TheVariants.{NoSuchPlace, WrongKind, BadRange, BadText, TooLarge}
 use Rattle.ed_session.specs.declared.refusal.EditFault.{EditFault}
 use Rattle.ed_session.specs.declared.refusal.EditFault.TheVariants.{Refused, NoMemory}
 use Rattle.ed_session.specs.Kept.{Kept, Opens}
-
-abbrev pub edit_of : Op → Edit
-edit_of (op.Text place from to value) = text_edit place from to (chars value)
 
 abbrev pub refusal_of : Refusal → spec.Refusal
 refusal_of NoSuchPlace = spec.no_such_place

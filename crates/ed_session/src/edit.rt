@@ -13,14 +13,15 @@ ghost use Rattle.xt_tree.specs.Places.{marks_of, AreInPlace};
 ghost use Rattle.xt_tree.specs.Patches.{patched};
 ghost use Rattle.ed_session.specs.Items.{IsNarrow};
 ghost use Rattle.ed_session.specs.Kept.{Opens};
-ghost use Rattle.ed_session.specs.Edits.{edit_of, IsNoTextAt, IsNoText, IsNoValue, IsTooLarge, IsNewText, IsRefusal, IsEditOf, IsRefusedIn, IsEdited};
+ghost use Rattle.ed_edit.specs.View.{edit_of};
+ghost use Rattle.ed_session.specs.Edits.{IsNoTextAt, IsNoText, IsNoValue, IsTooLarge, IsNewText, IsRefusal, IsEditOf, IsRefusedIn, IsEdited};
 
 use crate::kept::Session;
 use crate::opening::MOST_BYTES;
 use crate::place::{bytes_at, path_of};
 use crate::range::replace_range;
 use crate::refusal::{EditFault, Refusal};
-use bk_script::Op;
+use ed_edit::Edit;
 use ed_text::text_patch;
 use sqlite_items::Items;
 use std::alloc::{AllocError, Global};
@@ -214,16 +215,16 @@ fn edited(
     with_patch(alloc, bytes, &patch)
 }
 
-/// The bytes of a document with an operation of a script done.
-fn edited_by(alloc: Global, bytes: &[u8], items: &[Src], op: &Op) -> Result<Vec<u8>, EditFault>
+/// The bytes of a document with an edit.
+fn edited_by(alloc: Global, bytes: &[u8], items: &[Src], edit: &Edit) -> Result<Vec<u8>, EditFault>
     requires current { (root : List ℕ) × Opens root bytes.now (items_in bytes.now items.now) }
     requires place { AreInPlace bytes.now 0 (marks_of items.now) (length bytes.now) }
-    ensures value { IfOk result (λ out. (root : List ℕ) → Opens root bytes.now (items_in bytes.now items.now) → IsEditOf root (items_in bytes.now items.now) (edit_of op.now) out.items) }
+    ensures value { IfOk result (λ out. (root : List ℕ) → Opens root bytes.now (items_in bytes.now items.now) → IsEditOf root (items_in bytes.now items.now) (edit_of edit.now) out.items) }
     ensures fits { IfOk result (λ out. length out.items ≤ most_file_bytes) }
-    ensures fault { IfErr result (IsRefusal (items_in bytes.now items.now) (edit_of op.now)) }
+    ensures fault { IfErr result (IsRefusal (items_in bytes.now items.now) (edit_of edit.now)) }
 {
-    match op {
-        Op::Text {
+    match edit {
+        Edit::Text {
             place,
             from,
             to,
@@ -232,7 +233,7 @@ fn edited_by(alloc: Global, bytes: &[u8], items: &[Src], op: &Op) -> Result<Vec<
             alloc,
             bytes,
             items,
-            place.numbers(),
+            place.as_slice(),
             *from,
             *to,
             value.as_str(),
@@ -258,15 +259,15 @@ impl Session {
     /// Makes an edit, where no test refuses it.
     ///
     /// After an error the session is as before. A step is counted for each byte that is read again.
-    pub fn edit<L: Ledger>(&mut self, op: &Op, steps: &mut Steps<L>) -> Result<(), EditFault>
-        ensures value { OnOk result (IsEdited (edit_of op.now) self.old self.new) }
-        ensures fault { IfErr result (IsRefusedIn self.old.root self.old.bytes (edit_of op.now)) }
+    pub fn edit<L: Ledger>(&mut self, edit: &Edit, steps: &mut Steps<L>) -> Result<(), EditFault>
+        ensures value { OnOk result (IsEdited (edit_of edit.now) self.old self.new) }
+        ensures fault { IfErr result (IsRefusedIn self.old.root self.old.bytes (edit_of edit.now)) }
         ensures same { OnErr result (self.new ≡ self.old) }
         ensures count { (steps.old ≤ steps.new) × (steps.new ≤ steps.old + most_file_bytes) }
         ensures exact { OnOk result (steps.new ≡ steps.old + length self.new.bytes) }
     {
         let alloc = *self.bytes.allocator();
-        let bytes = edited_by(alloc, self.bytes.as_slice(), self.items.as_slice(), op)?;
+        let bytes = edited_by(alloc, self.bytes.as_slice(), self.items.as_slice(), edit)?;
         let items = read_again(alloc, bytes.as_slice(), steps)?;
         self.replace(bytes, items);
         Ok(())

@@ -4,7 +4,8 @@ ghost use Rattle.std.specs.Prelude.{◌≡◌};
 use bk_desk::{Desk, DeskErr, DeskName, MemDesk};
 use bk_info::{BookFault, Node};
 use bk_name::Name;
-use bk_script::{Command, Op, read_script};
+use bk_script::{Command, read_script};
+use ed_edit::Edit;
 use ed_session::{EditFault, Refusal, Session, StartFault, start};
 use jr_burst::is_closed;
 use jr_form::{Item, are_writable, write_journal};
@@ -58,26 +59,26 @@ fn started(alloc: Global, desk: &mut MemDesk) -> Result<Result<Session, StartFau
     }
 }
 
-fn edit_over<L: Ledger>(session: &mut Session, op: &Op, blank: Blank) -> Result<(), EditFault>
+fn edit_over<L: Ledger>(session: &mut Session, edit: &Edit, blank: Blank) -> Result<(), EditFault>
     requires name { blank.name ≡ L.name }
     requires parts { blank.parts ≡ L.parts }
     requires some { L.parts ≡ 1 }
 {
     let mut steps = Steps::<L>::new(blank);
-    session.edit(op, &mut steps)
+    session.edit(edit, &mut steps)
 }
 
-fn edit_once(session: &mut Session, op: &Op) -> Result<(), EditFault> {
+fn edit_once(session: &mut Session, edit: &Edit) -> Result<(), EditFault> {
     let blank = Blank::new(1);
-    edit_over::<Brand>(session, op, blank)
+    edit_over::<Brand>(session, edit, blank)
 }
 
 /// Makes the edits of a script, of which the last answers. Want of memory is handed on.
 fn edit(alloc: Global, session: &mut Session, script: &str) -> Result<Option<Refusal>, Fail> {
     let mut last = None;
     for command in &read_script(alloc, script.as_bytes())? {
-        if let Command::Edit(op) = command {
-            last = match edit_once(session, op) {
+        if let Command::Edit(asked) = command {
+            last = match edit_once(session, asked) {
                 Ok(()) => None,
                 Err(EditFault::Refused(refusal)) => Some(refusal),
                 Err(EditFault::NoMemory) => return Err(Fail::from(AllocError)),

@@ -1,7 +1,7 @@
 use Rattle.std.proofs.Common.{◌∙◌, List, ℕ, ap, sym, refl, subst}
 use Rattle.xt_tree.specs.Meaning.{items_in}
 use Rattle.ed_session.specs.Kept.{Kept, Opens}
-use Rattle.ed_session.specs.Edits.{edit_of}
+use Rattle.ed_edit.specs.View.{edit_of}
 use Rattle.ed_session.proofs.EditLemmas.{is_edited}
 use Rattle.ed_session.proofs.KeptLemmas.{same_opens}
 use Rattle.ed_session.proofs.kept.Session.edit.Goals as goal
@@ -36,5 +36,5 @@ returns-clause-value g c =
     let root = c.args.self.now.root in
     let opens =
     same_opens root c.self.inside.root c.as_slice.result.now c.self.inside.bytes.items c.as_slice-2.result.now c.self.inside.items (ap (λ (k : Kept). k.root) (sym c.self.view_is)) c.as_slice.ensures.value c.as_slice-2.ensures c.self.invariant.opens in
-    is_edited (edit_of c.args.op.now) c.args.self.now c.replace.new.self c.as_slice.result.now c.in_ok-bytes.bytes.items (items_in c.as_slice.result.now c.as_slice-2.result.now)
+    is_edited (edit_of c.args.edit.now) c.args.self.now c.replace.new.self c.as_slice.result.now c.in_ok-bytes.bytes.items (items_in c.as_slice.result.now c.as_slice-2.result.now)
     (ap (λ (k : Kept). k.bytes) (sym c.self.view_is) ∙ sym c.as_slice.ensures.value) opens (c.in_ok-bytes.ensures.value root opens) c.replace.ensures.value
