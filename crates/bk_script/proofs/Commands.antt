@@ -3,8 +3,8 @@ use Rattle.std.proofs.Common.{◌≡◌, ℕ, true, ◌&&◌, List, [], ◌∷�
 use Rattle.std.proofs.lemmas.Bool.{and_parts}
 use Rattle.std.specs.List.{list_all}
 use Rattle.std.specs.Cmp.Lexicographic.{bytes_decides}
-use Rattle.xt_lex.specs.Scan.{take_while}
-use Rattle.xt_lex.proofs.Theorems.{bind_some}
+use Rattle.xt_scan.specs.Step.{take_while}
+use Rattle.xt_scan.proofs.Theorems.{bind_some}
 use Rattle.bk_script.specs.Word.{is_blank, Place, Word, letters, number, place, string, AreWords}
 use Rattle.bk_script.specs.Command.{Command, edit_text, burst, IsCommandLine, is_built}
 use Rattle.bk_script.specs.Reading.{word_at, place_of, number_of, last_string_at, text_at, command_at}

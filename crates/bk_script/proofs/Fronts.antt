@@ -3,7 +3,7 @@ use Rattle.std.proofs.Common.{◌≡◌, ℕ, ◌<◌, List, [], ◌∷◌, ◌+
 use Rattle.std.proofs.lemmas.Bool.{cases_Bool, not-false}
 use Rattle.std.proofs.lemmas.Bool.Decides.{nat_tests}
 use Rattle.std.specs.List.{list_all}
-use Rattle.xt_lex.specs.Scan.{take_while, drop_while}
+use Rattle.xt_scan.specs.Step.{take_while, drop_while}
 use Rattle.xt_lex.proofs.Theorems.{take_while_append, drop_while_append}
 use Rattle.bk_script.specs.Word.{is_blank, is_plain}
 use Rattle.bk_script.specs.Reading.{is_no_blank}

@@ -6,8 +6,10 @@ use Rattle.std.proofs.lemmas.Str.{IsUtf8-from_is_utf8, is_utf8-from_IsUtf8}
 use Rattle.std.specs.List.{list_all}
 use Rattle.std.specs.Str.{IsUtf8, is_utf8}
 use Rattle.memchr.specs.Find.{IsFirstByte, is_byte}
-use Rattle.xt_lex.specs.Scan.{take_while, drop_while, after}
-use Rattle.xt_lex.proofs.Theorems.{byte_len, take_while_is, drop_while_is, list_all_joined, bind_some, take_while_split, take_while_passes, after_takes}
+use Rattle.xt_scan.specs.Step.{take_while, drop_while}
+use Rattle.xt_lex.specs.Scan.{after}
+use Rattle.xt_scan.proofs.Theorems.{byte_len, take_while_is, drop_while_is, bind_some, take_while_split, take_while_passes}
+use Rattle.xt_lex.proofs.Theorems.{list_all_joined, after_takes}
 use Rattle.bk_script.specs.Word.{is_blank, IsBlank, Word, letters, AreWords}
 use Rattle.bk_script.specs.Command.{Command, edit_text, put, attr, drop_attr, insert, insert_at, delete, move, extract, inline, undo, redo, burst, tree, owner, words_of, IsCommandLine}
 use Rattle.bk_script.specs.Script.{is_no_lf, ends_in_cr, IsEndedLine, IsSplit, IsComment, IsLine}

@@ -3,8 +3,10 @@ use Rattle.std.proofs.Common.{◌≡◌, ℕ, zero, suc, false, eqb, List, [], �
 use Rattle.std.proofs.lemmas.Bool.{cases_Bool, ne_eqb, eqb-false}
 use Rattle.std.proofs.lemmas.List.{length-append}
 use Rattle.xt_spec.specs.Reference.{is_decimal_digit}
-use Rattle.xt_lex.specs.Scan.{take_while, drop_while, after}
-use Rattle.xt_lex.proofs.Theorems.{bind_some, take_while_split, after_takes}
+use Rattle.xt_scan.specs.Step.{take_while, drop_while}
+use Rattle.xt_lex.specs.Scan.{after}
+use Rattle.xt_scan.proofs.Theorems.{bind_some, take_while_split}
+use Rattle.xt_lex.proofs.Theorems.{after_takes}
 use Rattle.bk_script.specs.Word.{IsNumber, IsStep, Place, IsPlace, AreSpelled}
 use Rattle.bk_script.specs.Reading.{number_of, not_zero, step_at, parts_of, all_read, place_of}
 use Rattle.bk_script.specs.View.{place_from}

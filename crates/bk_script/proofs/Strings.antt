@@ -5,8 +5,10 @@ use Rattle.std.proofs.lemmas.Bool.Decides.{nat_tests}
 use Rattle.std.proofs.lemmas.List.{length-append, drop_more}
 use Rattle.std.specs.List.{list_all, concat}
 use Rattle.xt_spec.specs.Reference.{is_hexadecimal_digit, digit_value, number_behind, AreDigits}
-use Rattle.xt_lex.specs.Scan.{◌>>=◌, take_while, drop_while, after}
-use Rattle.xt_lex.proofs.Theorems.{bind_some, take_while_split, take_while_passes, after_takes}
+use Rattle.xt_scan.specs.Step.{◌>>=◌, take_while, drop_while}
+use Rattle.xt_lex.specs.Scan.{after}
+use Rattle.xt_scan.proofs.Theorems.{bind_some, take_while_split, take_while_passes}
+use Rattle.xt_lex.proofs.Theorems.{after_takes}
 use Rattle.bk_script.specs.Word.{is_scalar, is_plain, IsCodePoint, IsEscape, IsStringPart, IsString}
 use Rattle.bk_script.specs.Reading.{Stops, ascii_at, scalar_of, code_point_at, escape_by, escape_at, string_part_at, parts_of, IsPushed, string_body_at, string_at}
 use Rattle.bk_script.specs.declared.stop.Stop.{Stop}

@@ -7,8 +7,10 @@ use Rattle.std.proofs.lemmas.List.{length-append, length-replicate}
 use Rattle.std.specs.List.{list_all}
 use Rattle.xt_spec.specs.Name.{IsQName}
 use Rattle.xt_lex.specs.NameTest.{is_name_byte}
-use Rattle.xt_lex.specs.Scan.{maybe, take_while, drop_while}
-use Rattle.xt_lex.proofs.Theorems.{qname_bytes, qname_nonempty, list_all_weaker, take_while_split}
+use Rattle.xt_scan.specs.Step.{take_while, drop_while}
+use Rattle.xt_lex.specs.Scan.{maybe}
+use Rattle.xt_scan.proofs.Theorems.{take_while_split}
+use Rattle.xt_lex.proofs.Theorems.{qname_bytes, qname_nonempty, list_all_weaker}
 use Rattle.bk_script.specs.Word.{is_blank, IsBlank, IsNumber, Place, IsPlace, Side, side_first, side_last, side_before, side_after, side_text, IsString, IsWord, MayFollow, Word, letters, number, place, side, qname, string, file, AreWords}
 use Rattle.bk_script.specs.Command.{Command, edit_text, put, attr, drop_attr, insert, insert_at, delete, move, extract, inline, undo, redo, burst, tree, owner, words_of, IsCommandLine}
 use Rattle.bk_script.specs.Reading.{is_no_blank, number_of, step_at, parts_of, string_at}

@@ -5,8 +5,9 @@ use Rattle.std.proofs.lemmas.Str.{IsUtf8-drop}
 use Rattle.std.specs.List.{list_all, prefix_len}
 use Rattle.std.specs.Str.{IsUtf8}
 use Rattle.xt_spec.specs.Reference.{is_hexadecimal_digit}
-use Rattle.xt_lex.specs.Scan.{drop_while}
-use Rattle.xt_lex.proofs.Theorems.{drop_while_is, boundary_at_stop, hexadecimal_ascii, list_all_weaker, list_all_joined, utf8_behind}
+use Rattle.xt_scan.specs.Step.{drop_while}
+use Rattle.xt_scan.proofs.Theorems.{drop_while_is, boundary_at_stop, utf8_behind}
+use Rattle.xt_lex.proofs.Theorems.{hexadecimal_ascii, list_all_weaker, list_all_joined}
 use Rattle.bk_script.specs.Word.{is_plain, IsEscape}
 use Rattle.bk_script.specs.Reading.{IsPushed}
 use Rattle.bk_script.proofs.Fronts.{no_plain_ascii}

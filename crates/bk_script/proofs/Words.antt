@@ -5,8 +5,9 @@ use Rattle.std.proofs.lemmas.Bool.Decides.{nat_tests}
 use Rattle.std.specs.List.{list_all}
 use Rattle.std.specs.Prelude.{◌==◌}
 use Rattle.xt_spec.specs.Reference.{is_decimal_digit}
-use Rattle.xt_lex.specs.Scan.{take_while, drop_while}
-use Rattle.xt_lex.proofs.Theorems.{list_all_weaker, list_all_joined, take_while_split, take_while_passes, bind_some}
+use Rattle.xt_scan.specs.Step.{take_while, drop_while}
+use Rattle.xt_scan.proofs.Theorems.{take_while_split, take_while_passes, bind_some}
+use Rattle.xt_lex.proofs.Theorems.{list_all_weaker, list_all_joined}
 use Rattle.bk_script.specs.Word.{is_blank, IsBlank, IsNumber, IsStep, Place, IsPlace, IsString, AreSpelled, MayFollow, string, AreWords}
 use Rattle.bk_script.specs.Reading.{is_no_blank, word_at, string_at, last_string_at}
 use Rattle.bk_script.proofs.Fronts.{StopsAt, run_whole, behind_whole, behind_stops}

@@ -11,7 +11,8 @@ use Rattle.std.specs.List.{list_all, concat}
 use Rattle.std.specs.Str.{is_utf8}
 use Rattle.xt_spec.specs.Limit.{most_commands, most_script_bytes}
 use Rattle.xt_spec.specs.Reference.{is_decimal_digit, is_hexadecimal_digit, digit_value, number_behind}
-use Rattle.xt_lex.specs.Scan.{◌>>=◌, maybe, take_while, drop_while, after}
+use Rattle.xt_scan.specs.Step.{◌>>=◌, take_while, drop_while}
+use Rattle.xt_lex.specs.Scan.{maybe, after}
 use Rattle.bk_script.specs.Word.{is_blank, is_plain, is_scalar}
 use Rattle.bk_script.specs.Command.{Command, edit_text, burst}
 use Rattle.bk_script.specs.Script.{is_no_lf, ends_in_cr, ScriptFault, too_long, bad_line, too_many}

@@ -3,7 +3,8 @@
 ghost use Rattle.std.specs.Prelude.{◌≡◌, Some, option_map};
 ghost use Rattle.std.specs.Option.{option_copied};
 ghost use Rattle.xt_spec.specs.Reference.{is_decimal_digit};
-ghost use Rattle.xt_lex.specs.Scan.{take_while, drop_while, after};
+ghost use Rattle.xt_scan.specs.Step.{take_while, drop_while};
+ghost use Rattle.xt_lex.specs.Scan.{after};
 ghost use Rattle.bk_script.specs.Reading.{Gives, step_at, parts_of, place_of};
 
 use crate::number::{decimal_len, number_of};

@@ -1,6 +1,6 @@
 use Rattle.std.proofs.Common.{◌≡◌}
 use Rattle.std.specs.List.{prefix_len}
-use Rattle.xt_lex.proofs.Theorems.{boundary_behind, drop_while_is}
+use Rattle.xt_scan.proofs.Theorems.{boundary_behind, drop_while_is}
 use Rattle.bk_script.specs.Word.{is_blank}
 use Rattle.bk_script.proofs.Fronts.{blank_ascii}
 use Rattle.bk_script.proofs.front.after_blanks.Goals as goal

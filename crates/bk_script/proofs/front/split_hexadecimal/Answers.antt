@@ -1,7 +1,8 @@
 use Rattle.std.proofs.Common.{◌≡◌}
 use Rattle.std.specs.List.{prefix_len}
 use Rattle.xt_spec.specs.Reference.{is_hexadecimal_digit}
-use Rattle.xt_lex.proofs.Theorems.{boundary_behind_or_start, hexadecimal_ascii, drop_while_is, take_while_is}
+use Rattle.xt_scan.proofs.Theorems.{boundary_behind_or_start, drop_while_is, take_while_is}
+use Rattle.xt_lex.proofs.Theorems.{hexadecimal_ascii}
 use Rattle.bk_script.proofs.front.split_hexadecimal.Goals as goal
 
 pub split_at-requires : goal.split_at-requires

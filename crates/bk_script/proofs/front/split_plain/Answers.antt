@@ -1,7 +1,7 @@
 use Rattle.std.proofs.Common.{◌≡◌}
 use Rattle.std.specs.List.{prefix_len}
 use Rattle.bk_script.specs.Word.{is_plain}
-use Rattle.xt_lex.proofs.Theorems.{boundary_at_stop, drop_while_is, take_while_is}
+use Rattle.xt_scan.proofs.Theorems.{boundary_at_stop, drop_while_is, take_while_is}
 use Rattle.bk_script.proofs.Fronts.{no_plain_ascii}
 use Rattle.bk_script.proofs.front.split_plain.Goals as goal
 

@@ -1,7 +1,7 @@
 use Rattle.std.proofs.Common.{◌≡◌}
 use Rattle.std.specs.List.{prefix_len}
 use Rattle.bk_script.specs.Reading.{is_no_blank}
-use Rattle.xt_lex.proofs.Theorems.{boundary_at_stop, drop_while_is, take_while_is}
+use Rattle.xt_scan.proofs.Theorems.{boundary_at_stop, drop_while_is, take_while_is}
 use Rattle.bk_script.proofs.Fronts.{no_blank_ascii}
 use Rattle.bk_script.proofs.front.split_word.Goals as goal
 

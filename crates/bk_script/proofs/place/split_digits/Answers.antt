@@ -1,7 +1,7 @@
 use Rattle.std.proofs.Common.{arith}
 use Rattle.std.proofs.lemmas.List.Sums.{prefix_len-le-length}
 use Rattle.xt_spec.specs.Reference.{is_decimal_digit}
-use Rattle.xt_lex.proofs.Theorems.{drop_while_is, take_while_is}
+use Rattle.xt_scan.proofs.Theorems.{drop_while_is, take_while_is}
 use Rattle.bk_script.proofs.place.split_digits.Goals as goal
 
 pub split_at-requires : goal.split_at-requires
