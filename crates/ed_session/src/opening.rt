@@ -5,7 +5,7 @@ ghost use Rattle.xt_spec.specs.Tree.{Items as SyntaxItems};
 ghost use Rattle.bk_desk.specs.declared.desk_name.DeskName.TheVariants.{Book};
 ghost use Rattle.bk_desk.specs.Disk.{FitsCap, Syncs, got_of};
 ghost use Rattle.bk_desk.specs.CrashPoints.{AtEachCrash};
-ghost use Rattle.bk_desk.specs.Cause.{HasCause};
+ghost use Rattle.bk_desk.specs.Cause.{HasCause, StaysFaultless};
 ghost use Rattle.jr_burst.specs.SavedFiles.{recovered_files};
 ghost use Rattle.jr_burst.specs.Recover.{IsRecovered, IsStartOrRecovered, IsOnlySynced};
 ghost use Rattle.ed_session.specs.Kept.{Kept, Opens};
@@ -152,6 +152,7 @@ pub fn start<D: Desk, L: Ledger>(
     // A damaged journal: nothing is written, whatever the answer.
     ensures none { IsTrue D.tells → recovered_files (D.standing desk.old).files ≡ None → Syncs (D.standing desk.old) (D.standing desk.new) }
     ensures crash { IsTrue D.tells → AtEachCrash D.time D.was desk.old desk.new (IsStartOrRecovered (D.standing desk.old)) }
+    ensures no_fault { StaysFaultless D.faultless D.faults desk.old desk.new }
     ensures cause_desk { HasCause (D.faults desk.old) (D.faults desk.new) (IsErrOf result StartFault.Desk) }
     ensures count { (steps.old ≤ steps.new) × (steps.new ≤ steps.old + most_file_bytes) }
     ensures exact { IsTrue D.tells → TakesSteps (HasRead result) (recovered_steps root.now (recovered_files (D.standing desk.old).files)) steps.old steps.new }
