@@ -5,15 +5,15 @@ use Rattle.std.proofs.lemmas.Bool.{cases_lt}
 use Rattle.std.proofs.lemmas.List.{take_all, take_at, take-append-le, append-nil}
 use Rattle.bk_desk.specs.declared.desk_name.DeskName.{DeskName}
 use Rattle.bk_desk.specs.declared.desk.DeskErr.{DeskErr}
-use Rattle.bk_desk.specs.declared.desk.DeskErr.TheVariants.{Failed}
+use Rattle.bk_desk.specs.declared.desk.DeskErr.TheVariants.{Failed, NoMemory}
 use Rattle.bk_desk.specs.declared.log.Call.{Call}
 use Rattle.bk_desk.specs.declared.log.Call.TheVariants.{Read, Put, Sync, Tell}
 use Rattle.bk_desk.specs.declared.log.Entry.{Entry}
 use Rattle.bk_desk.specs.Disk.{DiskState, CrashState, IsCrashState, WhileWriting, WhileTelling, TouchesOnly, Replaces, IsWrite, Syncs, NothingPending, Tells, TellsPrefix}
 use Rattle.bk_desk.specs.CrashPoints.{Elapses}
-use Rattle.bk_desk.specs.Cause.{HasCause}
+use Rattle.bk_desk.specs.Cause.{HasCause, StaysFaultless}
 use Rattle.bk_desk.specs.declared.mem_desk.MemDesk.{MemDesk}
-use Rattle.bk_desk.specs.Mem.{mem_standing, mem_calls, mem_fails, mem_faults, mem_was, is_listed, IsCounted}
+use Rattle.bk_desk.specs.Mem.{mem_standing, mem_calls, mem_fails, mem_faults, mem_faultless, mem_was, is_listed, IsCounted}
 use Rattle.bk_desk.specs.Calls.{after, opening, step, told_after, told_by, failures, is_done, WasCrashState}
 use Rattle.bk_desk.proofs.Names.{same_name-own, same_name-other}
 
@@ -215,3 +215,17 @@ module _ (old new : MemDesk) (starts : new.log.start.items ≡ old.log.start.ite
         number = listed false _ n;
         fails = fails;
       }
+
+-- a call that is counted fails no desk on which no later call was to fail
+pub counted_faultless : {T : Type 0} (old new : MemDesk) (result : Result T DeskErr) → IsCounted old new result → StaysFaultless mem_faultless mem_faults old new
+counted_faultless old new (Ok x) is sound = (
+  λ number later. ap (λ (l : List ℕ). is_listed l number) is.fails ∙ sound number (omega (arith, later, is.calls)),
+  omega (arith, is.faults),
+)
+counted_faultless old new (Err Failed) is sound =
+    let clash : true ≡ false = sym is.number ∙ sound (mem_calls old + 1) (omega arith) in
+    absurd cc
+counted_faultless old new (Err NoMemory) is sound = (
+  λ number later. ap (λ (l : List ℕ). is_listed l number) is.fails ∙ sound number (omega (arith, later, is.calls)),
+  is.faults,
+)

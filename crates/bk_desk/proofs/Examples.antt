@@ -1,5 +1,5 @@
 -- The definitions computed on small cases, right and wrong.
-use Rattle.std.proofs.Common.{◌≡◌, List, [], ◌∷◌, true, false, Some, None, refl, arith}
+use Rattle.std.proofs.Common.{◌≡◌, ◌∙◌, ℕ, ◌+◌, List, [], ◌∷◌, true, false, Some, None, refl, sym, ap, arith}
 use Rattle.std.specs.Prelude.{codes}
 use Rattle.bk_desk.specs.declared.desk_name.DeskName.TheVariants.{Book, Journal, Gate}
 use Rattle.bk_desk.specs.declared.desk.Got.TheVariants.{Absent, Bytes, Longer}
@@ -9,10 +9,11 @@ use Rattle.bk_desk.specs.declared.log.Entry.{Entry}
 use Rattle.bk_desk.specs.declared.stop.Left.TheVariants as left
 use Rattle.bk_desk.specs.DeskNames.{same_name}
 use Rattle.bk_desk.specs.Disk.{DiskState, MayLeave, got_of}
-use Rattle.bk_desk.specs.Cause.{Rose}
+use Rattle.bk_desk.specs.Cause.{Rose, StaysFaultless}
 use Rattle.bk_desk.specs.Calls.{after, opening, failures}
 use Rattle.bk_desk.specs.Left.{left_image}
-use Rattle.bk_desk.specs.Mem.{is_listed}
+use Rattle.bk_desk.specs.declared.mem_desk.MemDesk.{MemDesk}
+use Rattle.bk_desk.specs.Mem.{is_listed, mem_calls, mem_fails, mem_faultless}
 
 -- names are compared byte for byte, and a control file is no book file
 same_name-right : same_name (Book (codes "a.xml")) (Book (codes "a.xml")) ≡ true
@@ -91,3 +92,18 @@ is_listed-right = refl
 
 is_listed-wrong : is_listed (2 ∷ 5 ∷ []) 3 ≡ false
 is_listed-wrong = refl
+
+-- on a desk with no listed call none can fail; on one whose next call is listed one can
+mem_faultless-right : (desk : MemDesk) → mem_fails desk ≡ [] → mem_faultless desk
+mem_faultless-right desk none = λ number later. ap (λ (l : List ℕ). is_listed l number) none
+
+mem_faultless-wrong : (desk : MemDesk) → mem_calls desk ≡ 4 → mem_fails desk ≡ 5 ∷ [] → mem_faultless desk → ⊥
+mem_faultless-wrong desk four five sound =
+    let bad : true ≡ false = sym (ap (λ (l : List ℕ). is_listed l 5) five) ∙ sound 5 (omega (arith, four)) in
+    absurd cc
+
+-- a fault that is counted where no call could fail is refused
+stays_faultless-wrong : {D : Type 0} (faultless : D → Type 0) (faults : D → ℕ) (old new : D) → faultless old → faults new ≡ faults old + 1 → StaysFaultless faultless faults old new → ⊥
+stays_faultless-wrong faultless faults old new sound one stays =
+    let same = (stays sound).1 in
+    omega (arith, one, same)

@@ -1,4 +1,5 @@
 pub mod CrashPoints
+pub mod Faultless
 pub mod Names
 pub mod Calls
 pub mod Sources

@@ -5,9 +5,10 @@
 --   mem_fails      the numbers of the calls that are to fail, from 1
 --   mem_faults     how many calls failed
 --   mem_refused    how often memory was refused
+--   mem_faultless  no later call is one that is to fail
 --   IsNew          it is new: these files, these calls to fail, and no call yet
 --   IsCounted      a call was counted, and failed exactly where its number is listed
-use Rattle.std.specs.Prelude.{◌≡◌, ℕ, ◌+◌, ◌≤◌, List, length, take, Bool, true, false, nat_eq, Result}
+use Rattle.std.specs.Prelude.{◌≡◌, ℕ, ◌+◌, ◌≤◌, ◌<◌, List, length, take, Bool, true, false, nat_eq, Result}
 use Rattle.std.specs.List.{list_any}
 use Rattle.std.proofs.Common.{subst, sym, arith}
 use Rattle.std.proofs.lemmas.List.{take_all}
@@ -47,6 +48,10 @@ mem_was desk t crash = WasCrashState desk.log.start.items desk.log.calls.items t
 -- whether the number is in the list
 abbrev pub is_listed : List ℕ → ℕ → Bool
 is_listed numbers number = list_any (λ n. nat_eq n number) numbers
+
+-- no number of a later call is listed
+abbrev pub mem_faultless : MemDesk → Type 0
+mem_faultless desk = (number : ℕ) → mem_calls desk < number → is_listed (mem_fails desk) number ≡ false
 
 -- a new desk
 pub record IsNew (opened : DiskState) (listed : List ℕ) (desk : MemDesk) : Type 0 where

@@ -1,7 +1,7 @@
 ghost use Rattle.std.specs.Prelude.{◌≡◌, ◌≤◌, ℕ, Bool, IsTrue, IfOk, OnOk, IsErrOf, Some, None};
 ghost use Rattle.bk_desk.specs.Disk.{DiskState, CrashState, IsCrashState, WhileWriting, WhileTelling, IsWrite, Syncs, NothingPending, Tells, TellsPrefix, got_of, FitsCap};
 ghost use Rattle.bk_desk.specs.CrashPoints.{Elapses};
-ghost use Rattle.bk_desk.specs.Cause.{HasCause};
+ghost use Rattle.bk_desk.specs.Cause.{HasCause, StaysFaultless};
 
 use crate::DeskName;
 use thiserror::Error;
@@ -48,6 +48,9 @@ pub trait Desk {
     /// How often the disk or the output failed. It stands still at 2 ^ 64 - 1.
     ghost faults: { Self → ℕ };
 
+    /// That no later call can fail for want of a disk or an output. A desk over real files is never known to be so.
+    ghost faultless: { Self → Type 0 };
+
     /// How often memory was refused. It stands still at 2 ^ 64 - 1.
     ghost refused: { Self → ℕ };
 
@@ -57,6 +60,7 @@ pub trait Desk {
         ensures value { IsTrue tells → IfOk result (λ got. got ≡ got_of ((standing self.old).files name.now) cap) }
         ensures same { IsTrue tells → standing self.new ≡ standing self.old }
         ensures crash { IsTrue tells → Elapses (time self.old) (time self.new) (was self.old) (was self.new) (IsCrashState (standing self.old)) }
+        ensures no_fault { StaysFaultless faultless faults self.old self.new }
         ensures cause_desk { HasCause (faults self.old) (faults self.new) (IsErrOf result DeskErr.Failed) }
         ensures cause_memory { HasCause (refused self.old) (refused self.new) (IsErrOf result DeskErr.NoMemory) };
 
@@ -64,6 +68,7 @@ pub trait Desk {
     fn write_file(&mut self, name: &DeskName, bytes: &[u8]) -> Result<(), DeskErr>
         ensures value { IsTrue tells → IsWrite name.now (Some bytes.now) (standing self.old) (standing self.new) result }
         ensures crash { IsTrue tells → Elapses (time self.old) (time self.new) (was self.old) (was self.new) (WhileWriting name.now (standing self.old)) }
+        ensures no_fault { StaysFaultless faultless faults self.old self.new }
         ensures cause_desk { HasCause (faults self.old) (faults self.new) (IsErrOf result DeskErr.Failed) }
         ensures cause_memory { HasCause (refused self.old) (refused self.new) (IsErrOf result DeskErr.NoMemory) };
 
@@ -71,6 +76,7 @@ pub trait Desk {
     fn remove(&mut self, name: &DeskName) -> Result<(), DeskErr>
         ensures value { IsTrue tells → IsWrite name.now None (standing self.old) (standing self.new) result }
         ensures crash { IsTrue tells → Elapses (time self.old) (time self.new) (was self.old) (was self.new) (WhileWriting name.now (standing self.old)) }
+        ensures no_fault { StaysFaultless faultless faults self.old self.new }
         ensures cause_desk { HasCause (faults self.old) (faults self.new) (IsErrOf result DeskErr.Failed) }
         ensures cause_memory { HasCause (refused self.old) (refused self.new) (IsErrOf result DeskErr.NoMemory) };
 
@@ -79,6 +85,7 @@ pub trait Desk {
         ensures durable { IsTrue tells → OnOk result (NothingPending (standing self.new)) }
         ensures same { IsTrue tells → Syncs (standing self.old) (standing self.new) }
         ensures crash { IsTrue tells → Elapses (time self.old) (time self.new) (was self.old) (was self.new) (IsCrashState (standing self.old)) }
+        ensures no_fault { StaysFaultless faultless faults self.old self.new }
         ensures cause_desk { HasCause (faults self.old) (faults self.new) (IsErrOf result DeskErr.Failed) }
         ensures cause_memory { HasCause (refused self.old) (refused self.new) (IsErrOf result DeskErr.NoMemory) };
 
@@ -87,6 +94,7 @@ pub trait Desk {
         ensures output { IsTrue tells → OnOk result (Tells bytes.now (standing self.old) (standing self.new)) }
         ensures same { IsTrue tells → TellsPrefix bytes.now (standing self.old) (standing self.new) }
         ensures crash { IsTrue tells → Elapses (time self.old) (time self.new) (was self.old) (was self.new) (WhileTelling bytes.now (standing self.old)) }
+        ensures no_fault { StaysFaultless faultless faults self.old self.new }
         ensures cause_desk { HasCause (faults self.old) (faults self.new) (IsErrOf result DeskErr.Failed) }
         ensures cause_memory { HasCause (refused self.old) (refused self.new) (IsErrOf result DeskErr.NoMemory) };
 

@@ -129,9 +129,9 @@ impl MemDesk {
     ghost use Rattle.std.specs.Option.{option_map};
     ghost use Rattle.bk_desk.specs.Disk.{IsCrashImage, IsWrite, WhileWriting};
     ghost use Rattle.bk_desk.specs.CrashPoints.{Elapses};
-    ghost use Rattle.bk_desk.specs.Cause.{Rose, HasCause};
+    ghost use Rattle.bk_desk.specs.Cause.{Rose, HasCause, StaysFaultless};
     ghost use Rattle.bk_desk.specs.Calls.{opening};
-    ghost use Rattle.bk_desk.specs.Mem.{mem_standing, mem_standing_after, mem_calls, mem_fails, mem_faults, mem_was, is_listed, IsNew, IsCounted};
+    ghost use Rattle.bk_desk.specs.Mem.{mem_standing, mem_standing_after, mem_calls, mem_fails, mem_faults, mem_faultless, mem_was, is_listed, IsNew, IsCounted};
     ghost use Rattle.bk_desk.specs.Left.{restarted};
     ghost use Rattle.bk_desk.specs.MemLeft.{mem_left_image};
 
@@ -235,6 +235,7 @@ impl MemDesk {
         ensures value { IsWrite name.now (option_map (λ bytes. bytes.now) bytes.entry) (mem_standing self.old) (mem_standing self.new) result }
         ensures crash { Elapses (mem_calls self.old) (mem_calls self.new) (mem_was self.old) (mem_was self.new) (WhileWriting name.now (mem_standing self.old)) }
         ensures fault { IsCounted self.old self.new result }
+        ensures no_fault { StaysFaultless mem_faultless mem_faults self.old self.new }
         ensures cause_desk { HasCause (mem_faults self.old) (mem_faults self.new) (IsErrOf result DeskErr.Failed) }
         ensures cause_memory { HasCause self.old.refused self.new.refused (IsErrOf result DeskErr.NoMemory) }
     {
@@ -249,8 +250,8 @@ impl Desk for MemDesk {
     ghost use Rattle.std.specs.Prelude.{◌≡◌, IsTrue, true, length, IfOk, OnOk, IsErrOf, Some, None};
     ghost use Rattle.bk_desk.specs.Disk.{IsCrashState, WhileWriting, WhileTelling, IsWrite, Syncs, NothingPending, Tells, TellsPrefix, got_of, FitsCap};
     ghost use Rattle.bk_desk.specs.CrashPoints.{Elapses};
-    ghost use Rattle.bk_desk.specs.Cause.{HasCause};
-    ghost use Rattle.bk_desk.specs.Mem.{mem_standing, mem_calls, mem_faults, mem_refused, mem_was, mem_counts_now, mem_only_now, IsCounted};
+    ghost use Rattle.bk_desk.specs.Cause.{HasCause, StaysFaultless};
+    ghost use Rattle.bk_desk.specs.Mem.{mem_standing, mem_calls, mem_faults, mem_faultless, mem_refused, mem_was, mem_counts_now, mem_only_now, IsCounted};
 
     ghost tells = { true };
 
@@ -261,6 +262,8 @@ impl Desk for MemDesk {
     ghost was = { mem_was };
 
     ghost faults = { mem_faults };
+
+    ghost faultless = { mem_faultless };
 
     ghost refused = { mem_refused };
 
@@ -273,6 +276,7 @@ impl Desk for MemDesk {
         ensures value { IsTrue true → IfOk result (λ got. got ≡ got_of ((mem_standing self.old).files name.now) cap) }
         ensures same { IsTrue true → (mem_standing self.new) ≡ (mem_standing self.old) }
         ensures crash { IsTrue true → Elapses (mem_calls self.old) (mem_calls self.new) (mem_was self.old) (mem_was self.new) (IsCrashState (mem_standing self.old)) }
+        ensures no_fault { StaysFaultless mem_faultless mem_faults self.old self.new }
         ensures cause_desk { HasCause (mem_faults self.old) (mem_faults self.new) (IsErrOf result DeskErr.Failed) }
         ensures cause_memory { HasCause (mem_refused self.old) (mem_refused self.new) (IsErrOf result DeskErr.NoMemory) }
         ensures fault { IsCounted self.old self.new result }
@@ -294,6 +298,7 @@ impl Desk for MemDesk {
     fn write_file(&mut self, name: &DeskName, bytes: &[u8]) -> Result<(), DeskErr>
         ensures value { IsTrue true → IsWrite name.now (Some bytes.now) (mem_standing self.old) (mem_standing self.new) result }
         ensures crash { IsTrue true → Elapses (mem_calls self.old) (mem_calls self.new) (mem_was self.old) (mem_was self.new) (WhileWriting name.now (mem_standing self.old)) }
+        ensures no_fault { StaysFaultless mem_faultless mem_faults self.old self.new }
         ensures cause_desk { HasCause (mem_faults self.old) (mem_faults self.new) (IsErrOf result DeskErr.Failed) }
         ensures cause_memory { HasCause (mem_refused self.old) (mem_refused self.new) (IsErrOf result DeskErr.NoMemory) }
         ensures fault { IsCounted self.old self.new result }
@@ -304,6 +309,7 @@ impl Desk for MemDesk {
     fn remove(&mut self, name: &DeskName) -> Result<(), DeskErr>
         ensures value { IsTrue true → IsWrite name.now None (mem_standing self.old) (mem_standing self.new) result }
         ensures crash { IsTrue true → Elapses (mem_calls self.old) (mem_calls self.new) (mem_was self.old) (mem_was self.new) (WhileWriting name.now (mem_standing self.old)) }
+        ensures no_fault { StaysFaultless mem_faultless mem_faults self.old self.new }
         ensures cause_desk { HasCause (mem_faults self.old) (mem_faults self.new) (IsErrOf result DeskErr.Failed) }
         ensures cause_memory { HasCause (mem_refused self.old) (mem_refused self.new) (IsErrOf result DeskErr.NoMemory) }
         ensures fault { IsCounted self.old self.new result }
@@ -315,6 +321,7 @@ impl Desk for MemDesk {
         ensures durable { IsTrue true → OnOk result (NothingPending (mem_standing self.new)) }
         ensures same { IsTrue true → Syncs (mem_standing self.old) (mem_standing self.new) }
         ensures crash { IsTrue true → Elapses (mem_calls self.old) (mem_calls self.new) (mem_was self.old) (mem_was self.new) (IsCrashState (mem_standing self.old)) }
+        ensures no_fault { StaysFaultless mem_faultless mem_faults self.old self.new }
         ensures cause_desk { HasCause (mem_faults self.old) (mem_faults self.new) (IsErrOf result DeskErr.Failed) }
         ensures cause_memory { HasCause (mem_refused self.old) (mem_refused self.new) (IsErrOf result DeskErr.NoMemory) }
         ensures fault { IsCounted self.old self.new result }
@@ -328,6 +335,7 @@ impl Desk for MemDesk {
         ensures output { IsTrue true → OnOk result (Tells bytes.now (mem_standing self.old) (mem_standing self.new)) }
         ensures same { IsTrue true → TellsPrefix bytes.now (mem_standing self.old) (mem_standing self.new) }
         ensures crash { IsTrue true → Elapses (mem_calls self.old) (mem_calls self.new) (mem_was self.old) (mem_was self.new) (WhileTelling bytes.now (mem_standing self.old)) }
+        ensures no_fault { StaysFaultless mem_faultless mem_faults self.old self.new }
         ensures cause_desk { HasCause (mem_faults self.old) (mem_faults self.new) (IsErrOf result DeskErr.Failed) }
         ensures cause_memory { HasCause (mem_refused self.old) (mem_refused self.new) (IsErrOf result DeskErr.NoMemory) }
         ensures fault { IsCounted self.old self.new result }

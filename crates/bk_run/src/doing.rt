@@ -3,7 +3,7 @@ ghost use Rattle.std.specs.Prelude.{◌≡◌, ◌≤◌, ◌+◌, IsTrue, IfOk,
 ghost use Rattle.xt_spec.specs.Limit.{most_file_bytes};
 ghost use Rattle.bk_desk.specs.Disk.{DiskState};
 ghost use Rattle.bk_desk.specs.CrashPoints.{AtEachCrash};
-ghost use Rattle.bk_desk.specs.Cause.{HasCause};
+ghost use Rattle.bk_desk.specs.Cause.{HasCause, StaysFaultless};
 ghost use Rattle.jr_burst.specs.Commit.{IsClosed};
 ghost use Rattle.ed_edit.specs.View.{edit_of};
 ghost use Rattle.ed_session.specs.Burst.{MayCrashInBurst};
@@ -43,6 +43,7 @@ fn save<D: Desk>(session: &mut Session, desk: &mut D) -> Result<Reply, Stop>
     ensures value { IsTrue D.tells → (s : model.Session) → Stands session.old (D.standing desk.old) s → IfOk result (λ reply. IsDone session.old.root s model.burst (reply_of reply) session.new (D.standing desk.new)) }
     ensures keeps { IsTrue D.tells → OnOk result (IsClosed (D.standing desk.new)) }
     ensures crash { IsTrue D.tells → AtEachCrash D.time D.was desk.old desk.new (MayCrashInBurst session.old (D.standing desk.old)) }
+    ensures no_fault { StaysFaultless D.faultless D.faults desk.old desk.new }
     ensures cause_desk { HasCause (D.faults desk.old) (D.faults desk.new) (IsErrOf result Stop.Fault) }
 {
     match session.burst(desk) {
@@ -64,6 +65,7 @@ pub(crate) fn perform<D: Desk, L: Ledger>(
     ensures keeps { IsTrue D.tells → OnOk result (IsClosed (D.standing desk.new)) }
     ensures same { IsTrue D.tells → (D.standing desk.new).told ≡ (D.standing desk.old).told }
     ensures crash { IsTrue D.tells → AtEachCrash D.time D.was desk.old desk.new (MayCrashIn command.now session.old (D.standing desk.old)) }
+    ensures no_fault { StaysFaultless D.faultless D.faults desk.old desk.new }
     ensures cause_desk { HasCause (D.faults desk.old) (D.faults desk.new) (IsErrOf result Stop.Fault) }
     ensures count { (steps.old ≤ steps.new) × (steps.new ≤ steps.old + most_file_bytes) }
 {

@@ -7,8 +7,8 @@ ghost use Rattle.bk_run.specs.Input.{IsMore, IsInput};
 use bk_desk::Source;
 use std::alloc::{AllocError, Global};
 
-/// One byte more than a script may have.
-const MOST_READ: usize = 1_048_577;
+/// The most bytes that a script may have, the limit `most_script_bytes`.
+const MOST_SCRIPT_BYTES: usize = 1_048_576;
 
 /// How many bytes are asked for at once.
 const PIECE: usize = 4096;
@@ -54,20 +54,20 @@ fn read_more<S: Source>(source: &mut S, bytes: &mut Vec<u8>) -> Result<bool, Inp
     ensures cause { HasCause (S.faults source.old) (S.faults source.new) (IsErrOf result InputFault.Source) }
 {
     let mut buffer = [0; PIECE];
-    let room = (MOST_READ - bytes.len()).min(PIECE);
+    let room = (MOST_SCRIPT_BYTES + 1 - bytes.len()).min(PIECE);
     let count = read_piece(source, &mut buffer[..room])?;
     bytes.extend_from_slice(&buffer[..count])?;
     Ok(count != 0)
 }
 
-/// The bytes that a source has left, to its end, or as many as 1,048,577 of them.
+/// The bytes that a source has left, to its end, or one more than a script may have.
 pub fn read_input<S: Source>(alloc: Global, source: &mut S) -> Result<Vec<u8>, InputFault>
     ensures value { (left : List ℕ) → S.left source.old ≡ Some left → IfOk result (λ bytes. IsInput (most_script_bytes + 1) left (S.left source.new) bytes.items) }
     ensures cause { HasCause (S.faults source.old) (S.faults source.new) (IsErrOf result InputFault.Source) }
 {
     let mut bytes = Vec::new(alloc);
     let mut more = true;
-    while more && bytes.len() < MOST_READ {
+    while more && bytes.len() < MOST_SCRIPT_BYTES + 1 {
         more = read_more(source, &mut bytes)?;
     }
     Ok(bytes)

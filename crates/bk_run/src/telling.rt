@@ -3,7 +3,7 @@ ghost use Rattle.std.specs.Prelude.{◌≡◌, ◌≤◌, ◌+◌, ◌*◌, ◌+
 ghost use Rattle.xt_spec.specs.Limit.{most_file_bytes};
 ghost use Rattle.bk_desk.specs.Disk.{Tells, TellsPrefix, WhileTelling};
 ghost use Rattle.bk_desk.specs.CrashPoints.{AtEachCrash};
-ghost use Rattle.bk_desk.specs.Cause.{HasCause};
+ghost use Rattle.bk_desk.specs.Cause.{HasCause, StaysFaultless};
 ghost use Rattle.jr_burst.specs.Commit.{IsClosed};
 ghost use Rattle.bk_script.specs.View.{command_of};
 ghost use Rattle.ed_spec.specs.Session as model;
@@ -26,6 +26,7 @@ fn tell_reply<D: Desk>(alloc: Global, reply: Reply, desk: &mut D) -> Result<(), 
     ensures output { IsTrue D.tells → OnOk result (Tells (reply_text (reply_of reply)) (D.standing desk.old) (D.standing desk.new)) }
     ensures prefix { IsTrue D.tells → TellsPrefix (reply_text (reply_of reply)) (D.standing desk.old) (D.standing desk.new) }
     ensures crash { IsTrue D.tells → AtEachCrash D.time D.was desk.old desk.new (WhileTelling (reply_text (reply_of reply)) (D.standing desk.old)) }
+    ensures no_fault { StaysFaultless D.faultless D.faults desk.old desk.new }
     ensures cause_desk { HasCause (D.faults desk.old) (D.faults desk.new) (IsErrOf result Stop.Fault) }
 {
     let text = reply.text(alloc)?;
@@ -49,6 +50,7 @@ fn answer<D: Desk, L: Ledger>(
         → (count : ℕ) × ((D.standing desk.new).told ≡ (D.standing desk.old).told ++ take count (reply_text reply)) }
     ensures crash { IsTrue D.tells → (s next : model.Session) (reply : model.Reply) → Stands session.old (D.standing desk.old) s → model.Does session.old.root s (asked_of command.now) reply next
         → AtEachCrash D.time D.was desk.old desk.new (MayStop (D.standing desk.old) s.saved next.saved reply) }
+    ensures no_fault { StaysFaultless D.faultless D.faults desk.old desk.new }
     ensures cause_desk { HasCause (D.faults desk.old) (D.faults desk.new) (IsErrOf result Stop.Fault) }
     ensures count { (steps.old ≤ steps.new) × (steps.new ≤ steps.old + most_file_bytes) }
 {
@@ -78,6 +80,7 @@ pub fn tell_replies<D: Desk, L: Ledger>(
     ensures crash { IsTrue D.tells → (s last : model.Session) (asked : List model.Command) (replies : List model.Step) (more : List ℕ) → Stands session.old (D.standing desk.old) s
         → AreCommandsOf (map command_of commands.now) asked → model.DoesAll session.old.root s asked replies last
         → AtEachCrash D.time D.was desk.old desk.new (IsOfOneBurst (D.standing desk.old) s.saved replies more) }
+    ensures no_fault { StaysFaultless D.faultless D.faults desk.old desk.new }
     ensures cause_desk { HasCause (D.faults desk.old) (D.faults desk.new) (IsErrOf result Stop.Fault) }
     ensures count { (steps.old ≤ steps.new) × (steps.new ≤ steps.old + length commands.now * most_file_bytes) }
 {

@@ -1,7 +1,7 @@
 //! Why a book did not open, in one line.
 ghost use Rattle.std.specs.Prelude.{◌≡◌, ◌⊎◌, ◌++◌, codes, IsTrue, IfOk, OnOk};
 ghost use Rattle.bk_desk.specs.CrashPoints.{AtEachCrash};
-ghost use Rattle.bk_desk.specs.Cause.{HasCause};
+ghost use Rattle.bk_desk.specs.Cause.{HasCause, StaysFaultless};
 ghost use Rattle.bk_spec.specs.IncludeKind.{kind_name};
 ghost use Rattle.bk_spec.specs.Fault.{line, pair, fault_line};
 ghost use Rattle.bk_info.specs.Nodes.{kind_in, fault_in};
@@ -128,6 +128,7 @@ fn fault_text(alloc: Global, fault: &BookFault) -> Result<Vec<u8>, AllocError>
 pub(crate) fn tell_fault<D: Desk>(alloc: Global, fault: &BookFault, desk: &mut D) -> u8
     ensures value { (result ≡ 3) ⊎ ((result ≡ 6) ⊎ (result ≡ 7)) }
     ensures output { IsTrue D.tells → IsToldWith 3 (fault_line (fault_in fault.now)) (D.standing desk.old) (D.standing desk.new) (AtEachCrash D.time D.was desk.old desk.new) result }
+    ensures no_fault { StaysFaultless D.faultless D.faults desk.old desk.new }
     ensures cause_desk { HasCause (D.faults desk.old) (D.faults desk.new) (result ≡ 6) }
 {
     match fault_text(alloc, fault) {

@@ -285,6 +285,8 @@ impl<R: Files<File = File> + Drop, W: Write + Drop> Desk for RealDesk<R, W> {
 
     ghost faults = { λ d. d.faults };
 
+    ghost faultless = { λ d. ⊥ };
+
     ghost refused = { λ d. d.refused };
 
     ghost counts_now = { λ d t crash h le is. silent h };

@@ -3,7 +3,7 @@ ghost use Rattle.std.specs.Prelude.{◌≡◌, ◌≢◌, ◌⊎◌, ◌≤◌, 
 ghost use Rattle.xt_spec.specs.Limit.{most_file_bytes, most_script_bytes};
 ghost use Rattle.bk_desk.specs.Disk.{DiskState};
 ghost use Rattle.bk_desk.specs.CrashPoints.{AtEachCrash};
-ghost use Rattle.bk_desk.specs.Cause.{Rose, HasCause};
+ghost use Rattle.bk_desk.specs.Cause.{Rose, HasCause, StaysFaultless};
 ghost use Rattle.jr_burst.specs.Commit.{IsClosed};
 ghost use Rattle.bk_script.specs.View.{command_of};
 ghost use Rattle.ed_session.specs.Start.{IsStarted};
@@ -45,6 +45,7 @@ fn run_session<D: Desk, L: Ledger>(
     ensures value { (result ≡ 0) ⊎ ((result ≡ 1) ⊎ ((result ≡ 6) ⊎ (result ≡ 7))) }
     ensures output { IsTrue D.tells → (start : DiskState) → IsStarted session.root start (D.standing desk.old) session
         → IsSessionRun session.root (map command_of commands.now) (D.standing desk.old) (D.standing desk.new) (AtEachCrash D.time D.was desk.old desk.new) result }
+    ensures no_fault { StaysFaultless D.faultless D.faults desk.old desk.new }
     ensures cause_desk { HasCause (D.faults desk.old) (D.faults desk.new) (result ≡ 6) }
     ensures count { (steps.old ≤ steps.new) × (steps.new ≤ steps.old + length commands.now * most_file_bytes) }
 {
@@ -66,6 +67,7 @@ fn run_book<D: Desk, L: Ledger>(
     ensures value { IsTrue (is_book_status result) ⊎ ((result ≡ 6) ⊎ (result ≡ 7)) }
     ensures output { IsTrue D.tells → (bytes : List ℕ) → IsScript bytes (map command_of commands.now)
         → IsRunOver (Some root.now) bytes (D.standing desk.old) (D.standing desk.new) (AtEachCrash D.time D.was desk.old desk.new) result }
+    ensures no_fault { StaysFaultless D.faultless D.faults desk.old desk.new }
     ensures cause_desk { HasCause (D.faults desk.old) (D.faults desk.new) (result ≡ 6) }
     ensures count { steps.old ≤ steps.new }
     ensures exact { IsTrue D.tells → (bytes : List ℕ) → IsScript bytes (map command_of commands.now) → TakesRunSteps (Some root.now) bytes (D.standing desk.old).files result steps.old steps.new }
@@ -92,6 +94,7 @@ fn run_script<D: Desk, L: Ledger>(
     ensures output { IsTrue D.tells → (left : List ℕ) (after : Option (List ℕ)) → IsInput (most_script_bytes + 1) left after bytes.now
         → IsRunOver (Some root.now) left (D.standing desk.old) (D.standing desk.new) (AtEachCrash D.time D.was desk.old desk.new) result }
     ensures same { IsTrue D.tells → result ≡ 4 → KeepsFiles (D.standing desk.old) (D.standing desk.new) }
+    ensures no_fault { StaysFaultless D.faultless D.faults desk.old desk.new }
     ensures cause_desk { HasCause (D.faults desk.old) (D.faults desk.new) (result ≡ 6) }
     ensures count { steps.old ≤ steps.new }
     ensures exact { IsTrue D.tells → (left : List ℕ) (after : Option (List ℕ)) → IsInput (most_script_bytes + 1) left after bytes.now → TakesRunSteps (Some root.now) left (D.standing desk.old).files result steps.old steps.new }
@@ -116,6 +119,7 @@ fn run_root<D: Desk, S: Source, L: Ledger>(
     ensures fault { IsTrue D.tells → result ≡ 5 → IsSourceFault (Some root.now) (Rose (S.faults script.old) (S.faults script.new)) (D.standing desk.old) (D.standing desk.new) (AtEachCrash D.time D.was desk.old desk.new) result }
     ensures none { (left : List ℕ) → S.left script.old ≡ Some left → IsTrue (is_book_status result) → S.left script.new ≡ Some [] }
     ensures same { IsTrue D.tells → (result ≡ 4) ⊎ (result ≡ 5) → KeepsFiles (D.standing desk.old) (D.standing desk.new) }
+    ensures no_fault { StaysFaultless D.faultless D.faults desk.old desk.new }
     ensures cause_desk { HasCause (D.faults desk.old) (D.faults desk.new) (result ≡ 6) }
     ensures cause { HasCause (S.faults script.old) (S.faults script.new) (result ≡ 5) }
     ensures count { steps.old ≤ steps.new }
@@ -143,6 +147,7 @@ fn run_words<D: Desk, S: Source, L: Ledger>(
     ensures none { (left : List ℕ) → S.left script.old ≡ Some left → IsTrue (is_book_status result) → S.left script.new ≡ Some [] }
     ensures keeps { root_of (map string_bytes words.now) ≡ None → script.new ≡ script.old }
     ensures same { IsTrue D.tells → (result ≡ 2) ⊎ ((result ≡ 4) ⊎ (result ≡ 5)) → KeepsFiles (D.standing desk.old) (D.standing desk.new) }
+    ensures no_fault { StaysFaultless D.faultless D.faults desk.old desk.new }
     ensures cause_desk { HasCause (D.faults desk.old) (D.faults desk.new) (result ≡ 6) }
     ensures cause { HasCause (S.faults script.old) (S.faults script.new) (result ≡ 5) }
     ensures count { steps.old ≤ steps.new }
@@ -194,6 +199,7 @@ pub fn run<D: Desk, S: Source, L: Ledger>(
     // Where no book is recovered: after 8 too.
     ensures others { IsTrue D.tells → (left : List ℕ) → S.left script.old ≡ Some left
         → (RecoveredBook (root_of (map string_bytes words.now)) left (D.standing desk.old).files → ⊥) → (D.standing desk.new).files ≡ (D.standing desk.old).files }
+    ensures no_fault { StaysFaultless D.faultless D.faults desk.old desk.new }
     ensures cause_desk { HasCause (D.faults desk.old) (D.faults desk.new) (result ≡ 6) }
     ensures cause { HasCause (S.faults script.old) (S.faults script.new) (result ≡ 5) }
     // After 0, 1, 3 and 8 nothing of the script is left.

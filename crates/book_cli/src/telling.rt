@@ -1,7 +1,7 @@
 //! A text is told, and the exit status that comes with it is the answer.
 ghost use Rattle.std.specs.Prelude.{◌≡◌, ◌≢◌, ◌⊎◌, ℕ, List, Some, IsTrue, IfOk, option_map};
 ghost use Rattle.bk_desk.specs.CrashPoints.{AtEachCrash};
-ghost use Rattle.bk_desk.specs.Cause.{HasCause};
+ghost use Rattle.bk_desk.specs.Cause.{HasCause, StaysFaultless};
 ghost use Rattle.bk_script.specs.View.{script_fault};
 ghost use Rattle.book_cli.specs.Output.{script_fault_line};
 ghost use Rattle.book_cli.specs.Leaves.{KeepsFiles};
@@ -23,6 +23,7 @@ pub(crate) fn tell<D: Desk>(desk: &mut D, text: &[u8], status: u8) -> u8
     requires fits { status ≢ 6 }
     ensures value { (result ≡ status) ⊎ ((result ≡ 6) ⊎ (result ≡ 7)) }
     ensures output { IsTrue D.tells → IsToldWith status text.now (D.standing desk.old) (D.standing desk.new) (AtEachCrash D.time D.was desk.old desk.new) result }
+    ensures no_fault { StaysFaultless D.faultless D.faults desk.old desk.new }
     ensures cause_desk { HasCause (D.faults desk.old) (D.faults desk.new) (result ≡ 6) }
 {
     match desk.tell(text) {
@@ -50,6 +51,7 @@ pub(crate) fn tell_script_fault<D: Desk>(alloc: Global, fault: ScriptFault, desk
     ensures same { fault ≡ ScriptFault.NoMemory → (result ≡ 7) × (desk.new ≡ desk.old) }
     ensures others { IsTrue D.tells → KeepsFiles (D.standing desk.old) (D.standing desk.new) }
     ensures output { IsTrue D.tells → (text : List ℕ) → option_map script_fault_line (script_fault fault) ≡ Some text → IsToldWith 4 text (D.standing desk.old) (D.standing desk.new) (AtEachCrash D.time D.was desk.old desk.new) result }
+    ensures no_fault { StaysFaultless D.faultless D.faults desk.old desk.new }
     ensures cause_desk { HasCause (D.faults desk.old) (D.faults desk.new) (result ≡ 6) }
 {
     match script_line(alloc, fault) {

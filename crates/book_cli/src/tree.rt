@@ -1,7 +1,7 @@
 //! The tree of a book's root, as it is told behind the replies.
 ghost use Rattle.std.specs.Prelude.{◌≡◌, ◌⊎◌, ◌++◌, ℕ, List, Some, IsTrue, IfOk, if◌then◌else◌};
 ghost use Rattle.bk_desk.specs.CrashPoints.{AtEachCrash};
-ghost use Rattle.bk_desk.specs.Cause.{HasCause};
+ghost use Rattle.bk_desk.specs.Cause.{HasCause, StaysFaultless};
 ghost use Rattle.ed_spec.specs.Book.{Book};
 ghost use Rattle.book_cli.specs.Output.{IsTree};
 ghost use Rattle.book_cli.specs.Ends.{IsToldWith};
@@ -36,6 +36,7 @@ pub(crate) fn tell_tree<D: Desk>(alloc: Global, session: Session, refused: bool,
     ensures value { (result ≡ 0) ⊎ ((result ≡ 1) ⊎ ((result ≡ 6) ⊎ (result ≡ 7))) }
     ensures output { IsTrue D.tells → (book : Book) (tree : List ℕ) → book session.root ≡ Some session.bytes → IsTree session.root book tree
         → IsToldWith (if refused then 1 else 0) tree (D.standing desk.old) (D.standing desk.new) (AtEachCrash D.time D.was desk.old desk.new) result }
+    ensures no_fault { StaysFaultless D.faultless D.faults desk.old desk.new }
     ensures cause_desk { HasCause (D.faults desk.old) (D.faults desk.new) (result ≡ 6) }
 {
     match tree_of(alloc, session) {

@@ -2,7 +2,7 @@
 use Rattle.std.proofs.Common.{◌≡◌, ◌∙◌, ◌≤◌, ◌<◌, ℕ, List, length, Bool, true, false, inl, inr, refl, sym, ap, subst, arith, Option, Some, None, nat_le, if◌then◌else◌, Result, Ok, Err}
 use Rattle.std.proofs.lemmas.Bool.{cases_lt}
 use Rattle.std.proofs.lemmas.Bool.Decides.{nat_tests}
-use Rattle.std.specs.Prelude.{IfErr, IsErrOf}
+use Rattle.std.specs.Prelude.{IfErr, IfSome, IsErrOf}
 use Rattle.xt_spec.specs.Limit.{most_file_bytes}
 use Rattle.bk_spec.specs.Fault.{too_large}
 use Rattle.bk_desk.specs.declared.desk.Got.{Got}
@@ -15,7 +15,7 @@ use Rattle.ed_session.specs.declared.opening.StartFault.{StartFault}
 use Rattle.ed_session.specs.declared.opening.StartFault.TheVariants as start
 use Rattle.ed_session.specs.Kept.{Kept}
 use Rattle.bk_spec.specs.FirstFault.{IsRootFault, longer, faulty}
-use Rattle.ed_session.specs.Start.{IsNoOpening, IsNoRoot, FailsBy, size_of_got, file_steps, recovered_steps, HasRead, TakesSteps}
+use Rattle.ed_session.specs.Start.{start_cause, IsNoOpening, IsNoRoot, FailsBy, size_of_got, file_steps, recovered_steps, HasRead, TakesSteps}
 
 fits_is : (bytes : List ℕ) → length bytes ≤ most_file_bytes → got_of (Some bytes) most_file_bytes ≡ Bytes bytes
 fits_is bytes le = let small : nat_le (length bytes) most_file_bytes ≡ true = grind (arith, nat_tests) in rw small refl
@@ -41,15 +41,15 @@ found_is bytes (Some others) got is read = elim (cases_lt most_file_bytes (lengt
 ]
 
 -- the file of which a read gave these bytes does not open
-pub no_root : (root other bytes items : List ℕ) (got : Got) (result : Result Kept StartFault) → other ≡ root → items ≡ bytes → got ≡ Bytes bytes → IfErr result (IsNoOpening other items)
-    → IfErr result (λ e. (found : Option (List ℕ)) → got ≡ got_of found most_file_bytes → IsNoRoot root found e)
+pub no_root : (root other bytes items : List ℕ) (got : Got) (result : Result Kept StartFault) → other ≡ root → items ≡ bytes → got ≡ Bytes bytes → IfErr result (λ e. IfSome (start_cause e) (IsNoOpening other items))
+    → IfErr result (λ e. (found : Option (List ℕ)) → got ≡ got_of found most_file_bytes → IfSome (start_cause e) (IsNoRoot root found))
 no_root root other bytes items got (Ok session) named same is never = tt
 no_root root other bytes items got (Err e) named same is never =
     λ found read.
     let (there, fits) = found_is bytes found got is read in
-    by found e (subst (λ (r : List ℕ). IsNoOpening r bytes e) named (subst (λ (l : List ℕ). IsNoOpening other l e) same never)) there fits
+    by found e (subst (λ (r : List ℕ). IfSome (start_cause e) (IsNoOpening r bytes)) named (subst (λ (l : List ℕ). IfSome (start_cause e) (IsNoOpening other l)) same never)) there fits
   where
-    by : (found : Option (List ℕ)) (e : StartFault) → IsNoOpening root bytes e → found ≡ Some bytes → length bytes ≤ most_file_bytes → IsNoRoot root found e
+    by : (found : Option (List ℕ)) (e : StartFault) → IfSome (start_cause e) (IsNoOpening root bytes) → found ≡ Some bytes → length bytes ≤ most_file_bytes → IfSome (start_cause e) (IsNoRoot root found)
     by found (start.Book fault) is there fits = faulty bytes there fits is
     by found start.Desk is there fits = is
     by found start.Journal is there fits = is
@@ -57,7 +57,7 @@ no_root root other bytes items got (Err e) named same is never =
 
 -- the root of a book that was recovered does not open
 pub fails_by : (root : List ℕ) (old new : DiskState) (got : Got) (result : Result Kept StartFault) → IsRecovered old new → got ≡ got_of (new.files (Book root)) most_file_bytes
-    → IfErr result (λ e. (found : Option (List ℕ)) → got ≡ got_of found most_file_bytes → IsNoRoot root found e) → IfErr result (FailsBy root old new)
+    → IfErr result (λ e. (found : Option (List ℕ)) → got ≡ got_of found most_file_bytes → IfSome (start_cause e) (IsNoRoot root found)) → IfErr result (λ e. IfSome (start_cause e) (FailsBy root old new))
 fails_by root old new got (Ok session) recovered read never = tt
 fails_by root old new got (Err (start.Book fault)) recovered read never = record { recovered = recovered; cause = never (new.files (Book root)) read }
 fails_by root old new got (Err start.Desk) recovered read never = tt

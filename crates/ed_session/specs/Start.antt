@@ -3,7 +3,9 @@
 --   start_of_recover, start_of_desk, start_of_open  the fault that one of a recovery, of the desk, or of a document, is
 --   IsOver                           the session is over a root of these bytes
 --   IsStarted                        the book was recovered, and the session is over its root
---   IsNoOpening, IsNoRoot            why bytes, and a file, do not open, as the code answers
+--   StartCause                       why there is no session: a fault of the root, the journal, or the disk
+--   start_cause                      the cause that is told; none is where memory was wanting
+--   IsNoOpening, IsNoRoot            why bytes, and a file, do not open
 --   IsFaulty                         the book was recovered, and its root does not open
 --   FailsBy                          why there is no session
 --   size_of_got, file_steps          how many steps it takes to read a file: one a byte
@@ -13,7 +15,7 @@
 use Rattle.std.specs.Prelude.{◌≡◌, ◌≤◌, ◌+◌, ℕ, List, length, nat_le, if◌then◌else◌, Option, Some, None, Result, Ok, Err}
 use Rattle.xt_spec.specs.Limit.{most_file_bytes}
 use Rattle.xt_spec.specs.Tree.{Items}
-use Rattle.bk_info.specs.declared.fault.BookFault.{BookFault}
+use Rattle.bk_spec.specs.Fault.{Fault}
 use Rattle.bk_info.specs.Nodes.{fault_in}
 use Rattle.ent_doc.specs.declared.fault.OpenFault.{OpenFault}
 use Rattle.ent_doc.specs.declared.fault.OpenFault.TheVariants as opening
@@ -54,19 +56,30 @@ pub record IsOver (root : List ℕ) (file : Option (List ℕ)) (session : Kept) 
   pub items : Items
   pub opens : Opens root session.bytes items
 
+-- why there is no session
+pub data StartCause : Type 0 where
+  root_fault : Fault → StartCause
+  damaged_journal : StartCause
+  failed_disk : StartCause
+
+-- the cause that is told; none is where memory was wanting
+abbrev pub start_cause : StartFault → Option StartCause
+start_cause (start.Book fault) = Some (root_fault (fault_in fault))
+start_cause start.Journal = Some damaged_journal
+start_cause start.Desk = Some failed_disk
+start_cause start.NoMemory = None
+
 -- there is no session over a root of these bytes
-abbrev pub IsNoOpening : List ℕ → List ℕ → StartFault → Type 0
-IsNoOpening root bytes (start.Book fault) = IsDocumentFault root bytes (fault_in fault)
-IsNoOpening root bytes start.Desk = ⊥
-IsNoOpening root bytes start.Journal = ⊥
-IsNoOpening root bytes start.NoMemory = Unit {0}
+abbrev pub IsNoOpening : List ℕ → List ℕ → StartCause → Type 0
+IsNoOpening root bytes (root_fault fault) = IsDocumentFault root bytes fault
+IsNoOpening root bytes damaged_journal = ⊥
+IsNoOpening root bytes failed_disk = ⊥
 
 -- .. nor over this file
-abbrev pub IsNoRoot : List ℕ → Option (List ℕ) → StartFault → Type 0
-IsNoRoot root file (start.Book fault) = IsRootFault root file (fault_in fault)
-IsNoRoot root file start.Desk = ⊥
-IsNoRoot root file start.Journal = ⊥
-IsNoRoot root file start.NoMemory = Unit {0}
+abbrev pub IsNoRoot : List ℕ → Option (List ℕ) → StartCause → Type 0
+IsNoRoot root file (root_fault fault) = IsRootFault root file fault
+IsNoRoot root file damaged_journal = ⊥
+IsNoRoot root file failed_disk = ⊥
 
 -- the session is over the root of the recovered book
 pub record IsStarted (root : List ℕ) (old new : DiskState) (session : Kept) : Type 0 where
@@ -74,16 +87,15 @@ pub record IsStarted (root : List ℕ) (old new : DiskState) (session : Kept) : 
   pub over : IsOver root (new.files (Book root)) session
 
 -- the book was recovered, and its root has this fault
-pub record IsFaulty (root : List ℕ) (old new : DiskState) (fault : BookFault) : Type 0 where
+pub record IsFaulty (root : List ℕ) (old new : DiskState) (fault : Fault) : Type 0 where
   pub recovered : IsRecovered old new
-  pub cause : IsRootFault root (new.files (Book root)) (fault_in fault)
+  pub cause : IsRootFault root (new.files (Book root)) fault
 
--- why there is no session
-abbrev pub FailsBy : List ℕ → DiskState → DiskState → StartFault → Type 0
-FailsBy root old new (start.Book fault) = IsFaulty root old new fault
-FailsBy root old new start.Journal = (recovered_files old.files ≡ None) × IsOnlySynced old new
-FailsBy root old new start.Desk = Unit {0}
-FailsBy root old new start.NoMemory = Unit {0}
+-- what stands where there is no session; that the disk failed is said of its count
+abbrev pub FailsBy : List ℕ → DiskState → DiskState → StartCause → Type 0
+FailsBy root old new (root_fault fault) = IsFaulty root old new fault
+FailsBy root old new damaged_journal = (recovered_files old.files ≡ None) × IsOnlySynced old new
+FailsBy root old new failed_disk = Unit {0}
 
 -- how many bytes a read gave
 abbrev pub size_of_got : Got → ℕ

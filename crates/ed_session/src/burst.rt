@@ -3,7 +3,7 @@ ghost use Rattle.std.specs.Prelude.{◌≡◌, ◌≢◌, ◌≤◌, ◌∷◌, 
 ghost use Rattle.xt_spec.specs.Limit.{most_file_bytes};
 ghost use Rattle.bk_desk.specs.declared.desk_name.DeskName.TheVariants.{Book};
 ghost use Rattle.bk_desk.specs.CrashPoints.{AtEachCrash};
-ghost use Rattle.bk_desk.specs.Cause.{HasCause};
+ghost use Rattle.bk_desk.specs.Cause.{HasCause, StaysFaultless};
 ghost use Rattle.jr_burst.specs.Commit.{IsClosed};
 ghost use Rattle.ed_session.specs.Burst.{item_of, IsSaved, IsBurst, MayCrashInBurst};
 
@@ -58,6 +58,7 @@ impl Session {
         ensures fault { OnErr result (self.old.bytes ≢ self.old.saved) }
         ensures others { self.old.bytes ≡ self.old.saved → desk.new ≡ desk.old }
         ensures crash { IsTrue D.tells → AtEachCrash D.time D.was desk.old desk.new (MayCrashInBurst self.old (D.standing desk.old)) }
+        ensures no_fault { StaysFaultless D.faultless D.faults desk.old desk.new }
         ensures cause_desk { HasCause (D.faults desk.old) (D.faults desk.new) (IsErrOf result DeskErr.Failed) }
     {
         if self.is_saved() {

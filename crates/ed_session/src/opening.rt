@@ -1,15 +1,15 @@
 //! How a session begins: the book is recovered, its root is read, and opens.
-ghost use Rattle.std.specs.Prelude.{◌≡◌, ◌≤◌, ◌+◌, ℕ, List, Option, None, length, IsTrue, IfOk, IfErr, IsErrOf};
+ghost use Rattle.std.specs.Prelude.{◌≡◌, ◌≤◌, ◌+◌, ℕ, List, Option, None, length, IsTrue, IfOk, IfErr, IfSome, IsErrOf};
 ghost use Rattle.xt_spec.specs.Limit.{most_file_bytes};
 ghost use Rattle.xt_spec.specs.Tree.{Items as SyntaxItems};
 ghost use Rattle.bk_desk.specs.declared.desk_name.DeskName.TheVariants.{Book};
 ghost use Rattle.bk_desk.specs.Disk.{FitsCap, Syncs, got_of};
 ghost use Rattle.bk_desk.specs.CrashPoints.{AtEachCrash};
-ghost use Rattle.bk_desk.specs.Cause.{HasCause};
+ghost use Rattle.bk_desk.specs.Cause.{HasCause, StaysFaultless};
 ghost use Rattle.jr_burst.specs.SavedFiles.{recovered_files};
 ghost use Rattle.jr_burst.specs.Recover.{IsRecovered, IsStartOrRecovered, IsOnlySynced};
 ghost use Rattle.ed_session.specs.Kept.{Kept, Opens};
-ghost use Rattle.ed_session.specs.Start.{IsOver, IsNoOpening, IsNoRoot, IsStarted, FailsBy, size_of_got, recovered_steps, TakesSteps, HasRead};
+ghost use Rattle.ed_session.specs.Start.{IsOver, start_cause, IsNoOpening, IsNoRoot, IsStarted, FailsBy, size_of_got, recovered_steps, TakesSteps, HasRead};
 
 use crate::kept::Session;
 use bk_desk::{Desk, DeskErr, DeskName, Got};
@@ -102,7 +102,7 @@ fn opened<L: Ledger>(
     requires fits { length bytes.items ≤ most_file_bytes }
     ensures value { IfOk result (λ s. s ≡ record { root = root; bytes = bytes.items; saved = bytes.items }) }
     ensures opens { IfOk result (λ s. (items : SyntaxItems) × Opens root bytes.items items) }
-    ensures fault { IfErr result (IsNoOpening root bytes.items) }
+    ensures fault { IfErr result (λ e. IfSome (start_cause e) (IsNoOpening root bytes.items)) }
     ensures count { steps.new ≡ steps.old + length bytes.items }
 {
     let Opened { items, nodes } = open_document(alloc, &root, bytes.as_slice(), steps)?;
@@ -124,7 +124,7 @@ fn opened_by<L: Ledger>(
 ) -> Result<Session, StartFault>
     requires fits { FitsCap most_file_bytes got }
     ensures value { IfOk result (λ s. (found : Option (List ℕ)) → got ≡ got_of found most_file_bytes → IsOver root.now found s) }
-    ensures fault { IfErr result (λ e. (found : Option (List ℕ)) → got ≡ got_of found most_file_bytes → IsNoRoot root.now found e) }
+    ensures fault { IfErr result (λ e. (found : Option (List ℕ)) → got ≡ got_of found most_file_bytes → IfSome (start_cause e) (IsNoRoot root.now found)) }
     ensures only { ¬ IsErrOf result StartFault.Desk × ¬ IsErrOf result StartFault.Journal }
     ensures count { steps.new ≤ steps.old + most_file_bytes }
     ensures exact { (steps.old ≤ steps.new) × TakesSteps (¬ IsErrOf result StartFault.NoMemory) (size_of_got got) steps.old steps.new }
@@ -148,10 +148,11 @@ pub fn start<D: Desk, L: Ledger>(
     steps: &mut Steps<L>,
 ) -> Result<Session, StartFault>
     ensures value { IsTrue D.tells → IfOk result (IsStarted root.now (D.standing desk.old) (D.standing desk.new)) }
-    ensures fault { IsTrue D.tells → IfErr result (FailsBy root.now (D.standing desk.old) (D.standing desk.new)) }
+    ensures fault { IsTrue D.tells → IfErr result (λ e. IfSome (start_cause e) (FailsBy root.now (D.standing desk.old) (D.standing desk.new))) }
     // A damaged journal: nothing is written, whatever the answer.
     ensures none { IsTrue D.tells → recovered_files (D.standing desk.old).files ≡ None → Syncs (D.standing desk.old) (D.standing desk.new) }
     ensures crash { IsTrue D.tells → AtEachCrash D.time D.was desk.old desk.new (IsStartOrRecovered (D.standing desk.old)) }
+    ensures no_fault { StaysFaultless D.faultless D.faults desk.old desk.new }
     ensures cause_desk { HasCause (D.faults desk.old) (D.faults desk.new) (IsErrOf result StartFault.Desk) }
     ensures count { (steps.old ≤ steps.new) × (steps.new ≤ steps.old + most_file_bytes) }
     ensures exact { IsTrue D.tells → TakesSteps (HasRead result) (recovered_steps root.now (recovered_files (D.standing desk.old).files)) steps.old steps.new }

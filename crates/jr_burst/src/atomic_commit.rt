@@ -1,7 +1,7 @@
 ghost use Rattle.std.specs.Prelude.{◌≡◌, ◌≤◌, ◌⊎◌, [], List, ℕ, Some, None, IsTrue, OnOk, IsErrOf};
 ghost use Rattle.bk_desk.specs.declared.desk_name.DeskName.TheVariants.{Journal, Gate};
 ghost use Rattle.bk_desk.specs.CrashPoints.{AtEachCrash};
-ghost use Rattle.bk_desk.specs.Cause.{HasCause};
+ghost use Rattle.bk_desk.specs.Cause.{HasCause, StaysFaultless};
 ghost use Rattle.jr_burst.specs.SavedFiles.{overlaid, book_files, is_open_gate, items_in};
 ghost use Rattle.jr_burst.specs.Commit.{IsOldOrNew, RecoversTo, HasOpenJournal, IsClosed, IsCarriedOut, Leaves};
 
@@ -16,6 +16,7 @@ pub(crate) fn open_gate<D: Desk>(desk: &mut D, plan: &Plan) -> Result<(), DeskEr
     ensures value { IsTrue D.tells → OnOk result (HasOpenJournal plan.now (D.standing desk.new)) }
     ensures durable { IsTrue D.tells → OnOk result (Leaves (book_files (D.standing desk.old).files) (D.standing desk.old) (D.standing desk.new)) }
     ensures crash { IsTrue D.tells → AtEachCrash D.time D.was desk.old desk.new (IsOldOrNew (D.standing desk.old) plan.now) }
+    ensures no_fault { StaysFaultless D.faultless D.faults desk.old desk.new }
     ensures cause_desk { HasCause (D.faults desk.old) (D.faults desk.new) (IsErrOf result DeskErr.Failed) }
     ensures cause_memory { HasCause (D.refused desk.old) (D.refused desk.new) (IsErrOf result DeskErr.NoMemory) }
 {
@@ -31,6 +32,7 @@ pub(crate) fn carry_out<D: Desk>(desk: &mut D, steps: &[Step]) -> Result<(), Des
     ensures value { IsTrue D.tells → OnOk result (IsCarriedOut (D.standing desk.new)) }
     ensures durable { IsTrue D.tells → OnOk result (Leaves (overlaid steps.now (book_files (D.standing desk.old).files)) (D.standing desk.old) (D.standing desk.new)) }
     ensures crash { IsTrue D.tells → AtEachCrash D.time D.was desk.old desk.new (RecoversTo (overlaid steps.now (book_files (D.standing desk.old).files)) (D.standing desk.old) steps.now) }
+    ensures no_fault { StaysFaultless D.faultless D.faults desk.old desk.new }
     ensures cause_desk { HasCause (D.faults desk.old) (D.faults desk.new) (IsErrOf result DeskErr.Failed) }
     ensures cause_memory { HasCause (D.refused desk.old) (D.refused desk.new) (IsErrOf result DeskErr.NoMemory) }
 {
@@ -46,6 +48,7 @@ pub(crate) fn close_gate<D: Desk>(desk: &mut D) -> Result<(), DeskErr>
     ensures value { IsTrue D.tells → OnOk result ((D.standing desk.new).files Gate ≡ None) }
     ensures durable { IsTrue D.tells → OnOk result (Leaves (book_files (D.standing desk.old).files) (D.standing desk.old) (D.standing desk.new)) }
     ensures crash { IsTrue D.tells → AtEachCrash D.time D.was desk.old desk.new (RecoversTo (book_files (D.standing desk.old).files) (D.standing desk.old) []) }
+    ensures no_fault { StaysFaultless D.faultless D.faults desk.old desk.new }
     ensures cause_desk { HasCause (D.faults desk.old) (D.faults desk.new) (IsErrOf result DeskErr.Failed) }
     ensures cause_memory { HasCause (D.refused desk.old) (D.refused desk.new) (IsErrOf result DeskErr.NoMemory) }
 {
@@ -61,6 +64,7 @@ pub fn commit<D: Desk>(desk: &mut D, plan: &Plan) -> Result<(), DeskErr>
     ensures value { IsTrue D.tells → OnOk result ((D.standing desk.new).files Gate ≡ None) }
     ensures durable { IsTrue D.tells → OnOk result (Leaves (overlaid plan.now (book_files (D.standing desk.old).files)) (D.standing desk.old) (D.standing desk.new)) }
     ensures crash { IsTrue D.tells → AtEachCrash D.time D.was desk.old desk.new (IsOldOrNew (D.standing desk.old) plan.now) }
+    ensures no_fault { StaysFaultless D.faultless D.faults desk.old desk.new }
     ensures cause_desk { HasCause (D.faults desk.old) (D.faults desk.new) (IsErrOf result DeskErr.Failed) }
     ensures cause_memory { HasCause (D.refused desk.old) (D.refused desk.new) (IsErrOf result DeskErr.NoMemory) }
 {

@@ -3,7 +3,7 @@ ghost use Rattle.std.specs.Option.{option_map};
 ghost use Rattle.bk_desk.specs.declared.desk_name.DeskName.TheVariants.{Journal, Gate};
 ghost use Rattle.bk_desk.specs.Disk.{IsCrashState, Syncs, NothingPending};
 ghost use Rattle.bk_desk.specs.CrashPoints.{AtEachCrash, Elapses};
-ghost use Rattle.bk_desk.specs.Cause.{HasCause};
+ghost use Rattle.bk_desk.specs.Cause.{HasCause, StaysFaultless};
 ghost use Rattle.jr_burst.specs.SavedFiles.{is_open_gate, items_in, recovered_files};
 ghost use Rattle.jr_burst.specs.Commit.{HasOpenJournal};
 ghost use Rattle.jr_burst.specs.Recover.{items_got, fault_of, IsRecovered, IsStartOrRecovered, IsOnlySynced, HasOpenGate};
@@ -61,6 +61,7 @@ pub(crate) fn read_items<D: Desk>(
     ensures same { IsTrue D.tells → D.standing desk.new ≡ D.standing desk.old }
     ensures crash { IsTrue D.tells → Elapses (D.time desk.old) (D.time desk.new) (D.was desk.old) (D.was desk.new) (IsCrashState (D.standing desk.old)) }
     ensures fault { IsErrOf result RecoverFault.Journal → ⊥ }
+    ensures no_fault { StaysFaultless D.faultless D.faults desk.old desk.new }
     ensures cause_desk { HasCause (D.faults desk.old) (D.faults desk.new) (IsErrOf result RecoverFault.Desk) }
 {
     let got = desk.read(&DeskName::Journal, 68450316)?;
@@ -75,6 +76,7 @@ fn redo_steps<D: Desk>(desk: &mut D, steps: &[Step]) -> Result<(), DeskErr>
     requires current { IsTrue D.tells → HasOpenJournal steps.now (D.standing desk.old) }
     ensures durable { IsTrue D.tells → OnOk result (IsRecovered (D.standing desk.old) (D.standing desk.new)) }
     ensures crash { IsTrue D.tells → AtEachCrash D.time D.was desk.old desk.new (IsStartOrRecovered (D.standing desk.old)) }
+    ensures no_fault { StaysFaultless D.faultless D.faults desk.old desk.new }
     ensures cause_desk { HasCause (D.faults desk.old) (D.faults desk.new) (IsErrOf result DeskErr.Failed) }
     ensures cause_memory { HasCause (D.refused desk.old) (D.refused desk.new) (IsErrOf result DeskErr.NoMemory) }
 {
@@ -90,6 +92,7 @@ fn redo<D: Desk>(alloc: Global, desk: &mut D) -> Result<(), RecoverFault>
     ensures same { IsTrue D.tells → IsErrOf result RecoverFault.Journal → D.standing desk.new ≡ D.standing desk.old }
     ensures none { IsTrue D.tells → recovered_files (D.standing desk.old).files ≡ None → D.standing desk.new ≡ D.standing desk.old }
     ensures crash { IsTrue D.tells → AtEachCrash D.time D.was desk.old desk.new (IsStartOrRecovered (D.standing desk.old)) }
+    ensures no_fault { StaysFaultless D.faultless D.faults desk.old desk.new }
     ensures cause_desk { HasCause (D.faults desk.old) (D.faults desk.new) (IsErrOf result RecoverFault.Desk) }
 {
     match read_items(alloc, desk)? {
@@ -111,6 +114,7 @@ pub fn recover<D: Desk>(alloc: Global, desk: &mut D) -> Result<(), RecoverFault>
     // A damaged journal: nothing is written, whatever the answer.
     ensures none { IsTrue D.tells → recovered_files (D.standing desk.old).files ≡ None → Syncs (D.standing desk.old) (D.standing desk.new) }
     ensures crash { IsTrue D.tells → AtEachCrash D.time D.was desk.old desk.new (IsStartOrRecovered (D.standing desk.old)) }
+    ensures no_fault { StaysFaultless D.faultless D.faults desk.old desk.new }
     ensures cause_desk { HasCause (D.faults desk.old) (D.faults desk.new) (IsErrOf result RecoverFault.Desk) }
 {
     desk.sync()?;

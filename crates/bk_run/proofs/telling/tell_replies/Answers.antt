@@ -1,5 +1,5 @@
 use Rattle.std.proofs.Common.{◌≡◌, ◌∙◌, ◌||◌, Bool, arith, ap, sym}
-use Rattle.bk_desk.proofs.Theorems.{started}
+use Rattle.bk_desk.proofs.Theorems.{started, faultless_started, faultless_joined}
 use Rattle.bk_run.specs.Stops.{IsOfOneBurst}
 use Rattle.bk_run.proofs.TellingLemmas.{none_yet, stop_at_start, more_told, all_told, does_asked, one_prefix, prefix_all, one_crash}
 use Rattle.bk_run.proofs.telling.tell_replies.Goals as goal
@@ -12,6 +12,7 @@ loop-command-init g c = record {
   crash = λ h s last steps more stands does.
       let start = g.D.Desk.standing c.args.desk.now in
       started g.D.Desk.time g.D.Desk.was c.args.desk.now (IsOfOneBurst start s.saved steps more) (λ crash since. stop_at_start c.args.session.now start s steps more crash stands (g.met.D.Desk.only_now c.args.desk.now crash h since));
+  no_fault = faultless_started g.D.Desk.faultless g.D.Desk.faults c.args.desk.now;
   faults = omega arith;
   later = omega arith;
   counted = omega arith;
@@ -43,6 +44,7 @@ loop-command-preserved g c = record {
   crash = λ h s last steps more stands does.
       one_crash g.D.Desk.standing g.D.Desk.time g.D.Desk.was c.args.session.now.root s last c.args.commands.now c.loop-command.command-index c.command-item.result c.loop-command.session c.args.desk.now c.loop-command.desk c.answer.new.desk c.loop-command.refused steps more
       c.loop-command-test.true c.command-item.is (c.loop-command.invariant.told h s stands) does (c.loop-command.invariant.crash h s last steps more stands does) (c.answer.ensures.crash h);
+  no_fault = faultless_joined g.D.Desk.faultless g.D.Desk.faults c.args.desk.now c.loop-command.desk c.answer.new.desk c.loop-command.invariant.no_fault c.answer.ensures.no_fault;
   faults = omega (arith, c.loop-command.invariant.faults, c.answer.ensures.cause_desk.later);
   later = omega (arith, c.loop-command.invariant.later, c.answer.ensures.count.0);
   counted = omega (arith, c.loop-command.invariant.counted, c.answer.ensures.count.1);

@@ -1,7 +1,7 @@
 use Rattle.std.proofs.Common.{Ok, Err, ap, refl, sym}
 use Rattle.bk_desk.specs.declared.desk.DeskErr.TheVariants.{Failed}
 use Rattle.bk_desk.specs.declared.log.Call.TheVariants.{Read}
-use Rattle.bk_desk.proofs.Calls.{read_same, read_crash, cause, counted_call, answer}
+use Rattle.bk_desk.proofs.Calls.{read_same, read_crash, cause, counted_call, counted_faultless, answer}
 use Rattle.bk_desk.proofs.mem_desk.MemDeskDesk.read.Goals as goal
 
 pub returns-then-is_done-clause-same : goal.returns-then-is_done-clause-same
@@ -27,3 +27,9 @@ returns-then-is_done-clause-fault c = counted_call c.args.self.now c.record.new.
 
 pub returns-else-is_done-clause-fault : goal.returns-else-is_done-clause-fault
 returns-else-is_done-clause-fault c = counted_call c.args.self.now c.record.new.self c.record.ensures.others.0 (Read c.is_next_done-is_done.result) _ (Err Failed) c.in_ok-record-in-Ok.ensures.value refl c.record.ensures.others.1 c.is_next_done-is_done.ensures.value (ap answer (sym c.if-is_done.false))
+
+pub returns-then-is_done-clause-no_fault : goal.returns-then-is_done-clause-no_fault
+returns-then-is_done-clause-no_fault c = counted_faultless {T = Unit {0}} c.args.self.now c.record.new.self (Ok tt) (counted_call c.args.self.now c.record.new.self c.record.ensures.others.0 (Read c.is_next_done-is_done.result) _ (Ok tt) c.in_ok-record-in-Ok.ensures.value refl c.record.ensures.others.1 c.is_next_done-is_done.ensures.value (ap answer (sym c.if-is_done.true)))
+
+pub returns-else-is_done-clause-no_fault : goal.returns-else-is_done-clause-no_fault
+returns-else-is_done-clause-no_fault c = counted_faultless {T = Unit {0}} c.args.self.now c.record.new.self (Err Failed) (counted_call c.args.self.now c.record.new.self c.record.ensures.others.0 (Read c.is_next_done-is_done.result) _ (Err Failed) c.in_ok-record-in-Ok.ensures.value refl c.record.ensures.others.1 c.is_next_done-is_done.ensures.value (ap answer (sym c.if-is_done.false)))

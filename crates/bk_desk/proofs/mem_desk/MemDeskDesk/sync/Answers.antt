@@ -1,5 +1,5 @@
 use Rattle.std.proofs.Common.{refl}
-use Rattle.bk_desk.proofs.Calls.{sync_durable_after, sync_same_after, sync_crash, answered_cause, counted_call}
+use Rattle.bk_desk.proofs.Calls.{sync_durable_after, sync_same_after, sync_crash, answered_cause, counted_call, counted_faultless}
 use Rattle.bk_desk.specs.declared.log.Call.TheVariants.{Sync}
 use Rattle.bk_desk.proofs.mem_desk.MemDeskDesk.sync.Goals as goal
 
@@ -17,3 +17,6 @@ returns-clause-cause_desk c = answered_cause c.args.self.now c.record.new.self c
 
 pub returns-clause-fault : goal.returns-clause-fault
 returns-clause-fault c = counted_call c.args.self.now c.record.new.self c.record.ensures.others.0 (Sync c.is_next_done-is_done.result) _ _ c.in_ok-record.ensures.value refl c.record.ensures.others.1 c.is_next_done-is_done.ensures.value c.done.ensures.value
+
+pub returns-clause-no_fault : goal.returns-clause-no_fault
+returns-clause-no_fault c = counted_faultless _ _ _ (counted_call c.args.self.now c.record.new.self c.record.ensures.others.0 (Sync c.is_next_done-is_done.result) _ _ c.in_ok-record.ensures.value refl c.record.ensures.others.1 c.is_next_done-is_done.ensures.value c.done.ensures.value)
