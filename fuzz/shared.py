@@ -46,8 +46,9 @@ def names_in(folder):
 
 
 def check_closed(folder, books):
-    """Whether a folder has these books, and besides at most the journal."""
-    want("the names", [name for name in names_in(folder) if name != JOURNAL], sorted(books))
+    """Whether a folder has these books, and besides at most the journal and an empty marker, as a stop leaves it before `OPEN` is written."""
+    own = {JOURNAL} | ({GATE} if model.files_in(folder).get(GATE.encode()) == b"" else set())
+    want("the names", [name for name in names_in(folder) if name not in own], sorted(books))
 
 
 # Runs side by side

@@ -82,7 +82,7 @@ def times(folder, program, reader, size, count, repeats):
 
 def page(rows, count, repeats, load):
     lines = [
-        "# Results of bench/edits.py",
+        "# Results of bench/edit.py",
         "",
         f"Medians of {repeats} runs each, processor time. {os.cpu_count()} processors ({platform.machine()}); load {load[0]:.1f} at the start and {os.getloadavg()[0]:.1f} at the end.",
         f"\"Edit\" is the {count:,}th part of what {count:,} edits add to a run. \"Reading\" is a whole run of `book_where`, which reads the file and makes nothing of it (for a small book, mostly the start of a process); \"copy\" a copy of the bytes in memory.",
@@ -103,7 +103,7 @@ def main():
     parser.add_argument("--reader", default=str(READER))
     parser.add_argument("--edits", type=int, default=1000)
     parser.add_argument("--repeats", type=int, default=3)
-    parser.add_argument("--results", default=str(TOP / "bench/EDITS.md"), help="the file to write; - for standard output alone")
+    parser.add_argument("--results", default=str(TOP / "bench/EDIT.md"), help="the file to write; - for standard output alone")
     parser.add_argument("--anyway", action="store_true", help="also on a loaded machine")
     words = parser.parse_args()
     load = os.getloadavg()
