@@ -1,12 +1,12 @@
 -- What follows an escape in UTF-8 is UTF-8.
-use Rattle.std.proofs.Common.{◌≡◌, ℕ, List, [], ◌∷◌, ◌++◌, Bool, true, ltb, ltb-true, refl, sym, subst, arith, inl, inr}
-use Rattle.std.proofs.lemmas.Bool.{and_parts, lt-ltb}
+use Rattle.std.proofs.Common.{◌≡◌, ℕ, List, [], ◌∷◌, Bool, true, ltb, refl, sym, subst, arith, inl, inr}
+use Rattle.std.proofs.lemmas.Bool.{lt-ltb}
 use Rattle.std.proofs.lemmas.Str.{IsUtf8-drop}
 use Rattle.std.specs.List.{list_all, prefix_len}
 use Rattle.std.specs.Str.{IsUtf8}
 use Rattle.xt_spec.specs.Reference.{is_hexadecimal_digit}
 use Rattle.xt_scan.specs.Step.{drop_while}
-use Rattle.xt_scan.proofs.Theorems.{drop_while_is, boundary_at_stop, utf8_behind}
+use Rattle.xt_scan.proofs.Theorems.{ascii, drop_while_is, boundary_at_stop, utf8_behind, utf8_rest}
 use Rattle.xt_lex.proofs.Theorems.{hexadecimal_ascii, list_all_weaker, list_all_joined}
 use Rattle.bk_script.specs.Word.{is_plain, IsEscape}
 use Rattle.bk_script.specs.Reading.{IsPushed}
@@ -15,12 +15,6 @@ use Rattle.bk_script.proofs.Strings.{escape_takes}
 
 abbrev is_ascii : ℕ → Bool
 is_ascii b = ltb b 128
-
-after_ascii : (t r : List ℕ) → list_all is_ascii t ≡ true → IsUtf8 (t ++ r) → IsUtf8 r
-after_ascii [] r all utf8 = utf8
-after_ascii (b ∷ bs) r all utf8 =
-    let both = and_parts _ _ all in
-    after_ascii bs r both.1 (utf8_behind b (bs ++ r) (ltb-true b 128 both.0) utf8)
 
 digit_ascii : (b : ℕ) → is_hexadecimal_digit b ≡ true → is_ascii b ≡ true
 digit_ascii b h = lt-ltb b 128 (hexadecimal_ascii b h)
@@ -41,5 +35,5 @@ pub pushed_utf8 : (value rest text now after_it : List ℕ) → rest ≡ 92 ∷ 
 pushed_utf8 value rest text now after_it is p utf8 =
     let escaped : IsUtf8 text = utf8_behind 92 text (omega arith) (subst IsUtf8 is utf8) in
     let t = escape_takes text (p.c, p.behind_escape) p.escape in
-    let left : IsUtf8 p.behind_escape = after_ascii t.0 p.behind_escape (escape_ascii t.0 p.c t.1) (subst IsUtf8 t.2 escaped) in
+    let left : IsUtf8 p.behind_escape = utf8_rest text t.0 p.behind_escape escaped (ascii t.0 (escape_ascii t.0 p.c t.1)) t.2 in
     subst IsUtf8 (sym p.rest_is) (plain_behind p.behind_escape left)

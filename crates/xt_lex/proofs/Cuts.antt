@@ -75,15 +75,6 @@ ending_ascii (b ∷ bs) zero h within = ltb-true b 128 (and_parts _ _ h).0
 ending_ascii (b ∷ []) (suc i) h within = absurd (omega arith)
 ending_ascii (b ∷ c ∷ bs) (suc i) h within = ending_ascii (c ∷ bs) i (and_parts _ _ h).1 (omega arith)
 
-pub cut_before : (needle s : List ℕ) (k : ℕ) → is_ending needle ≡ true → OccursAt s needle k → IsCharBoundary s k
-cut_before needle s k ends occurs =
-    let some = ending_some needle ends in
-    let fits = occurs.fits in
-    let zero_ : k + 0 ≡ k = omega arith in
-    let read : get_or s k 0 ≡ get_or needle 0 0 = rw zero_ at (occurs.reads 0 some) in
-    let small = ending_ascii needle 0 ends some in
-    IsCharBoundary-before_ascii s k (omega arith) (omega arith)
-
 pub cut_behind : (needle s : List ℕ) (k : ℕ) → is_ending needle ≡ true → IsUtf8 s → OccursAt s needle k → IsCharBoundary s (k + length needle)
 cut_behind needle s k ends u occurs =
     let some = ending_some needle ends in

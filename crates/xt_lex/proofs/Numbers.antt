@@ -40,11 +40,6 @@ next_digit base n k ds d some within is =
     ∙ ap (λ d. min (number_behind base (n * base + digit_value d) (drop (k + 1) ds)) 1114112) (sym is)
     ∙ ap (λ r. min (number_behind base n r) 1114112) (sym (drop_more ds k 0 within))
 
-pub product_fits : (base n : ℕ) → base ≤ 16 → n ≤ 1114112 → n * base ≤ 17825792
-product_fits base n b h =
-    let one = mul-le-mul_left n b in
-    omega arith
-
 char_small : (c : ℕ) → is_char c ≡ true → c < 1114112
 char_small c h = grind (arith, nat_tests)
 
@@ -77,10 +72,3 @@ named_not base digits c e h =
     let n = number_behind base 0 digits in
     let test : is_char n ≡ false = sym (capped_char n) ∙ ap is_char (sym e) ∙ h in
     rw test refl
-
-pub named_no_scalar : (base : ℕ) (digits : List ℕ) (c : ℕ) → c ≡ min (number_behind base 0 digits) 1114112 → (IsScalar c → ⊥) → None ≡ named base digits
-named_no_scalar base digits c e refuses =
-    elim (cases_Bool (is_char c)) [
-      | inl h ↦ absurd (refuses (char_scalar c h))
-      | inr h ↦ named_not base digits c e h
-    ]
