@@ -36,7 +36,7 @@ value_begins (b ∷ bs) r h =
 
 lawful_att_value : Lawful att_value
 unfolding att_value
-lawful_att_value = lawful_step IsAttValue after_quoted _ (record { takes = quoted_takes; again = λ t r is. (quoted_again t r is).0; begins = value_begins; utf8 = quoted_utf8 })
+lawful_att_value = lawful_step IsAttValue after_quoted _ (record { takes = quoted_takes; again = quoted_again; begins = value_begins; utf8 = quoted_utf8 })
 
 lawful_equals : Lawful equals
 lawful_equals = search (lawful_both, lawful_word, lawful_blank) depth 14

@@ -3,7 +3,7 @@ use Rattle.std.proofs.Common.{zero, suc, ◌≡◌, ◌≢◌, ℕ, ◌+◌, ◌
 use Rattle.std.proofs.lemmas.Bool.{cases_Bool, and_parts, and_from, both_ways, not_from_false, not-true}
 use Rattle.std.proofs.lemmas.List.{length-append, length-drop}
 use Rattle.std.proofs.lemmas.List.Prefix.{at_reads, at_from_reads}
-use Rattle.std.proofs.lemmas.Str.{IsCharBoundary-before_ascii, IsCharBoundary-after_ascii, chars-encodes, encodes-chars}
+use Rattle.std.proofs.lemmas.Str.{IsCharBoundary-after_ascii, chars-encodes, encodes-chars}
 use Rattle.std.specs.List.{list_all}
 use Rattle.std.specs.Str.{IsUtf8, IsCharBoundary, chars}
 use Rattle.memchr.specs.Find.{FindsNeedle, OccursAt}
@@ -74,15 +74,6 @@ ending_ascii [] i h within = absurd (cc)
 ending_ascii (b ∷ bs) zero h within = ltb-true b 128 (and_parts _ _ h).0
 ending_ascii (b ∷ []) (suc i) h within = absurd (omega arith)
 ending_ascii (b ∷ c ∷ bs) (suc i) h within = ending_ascii (c ∷ bs) i (and_parts _ _ h).1 (omega arith)
-
-pub cut_before : (needle s : List ℕ) (k : ℕ) → is_ending needle ≡ true → OccursAt s needle k → IsCharBoundary s k
-cut_before needle s k ends occurs =
-    let some = ending_some needle ends in
-    let fits = occurs.fits in
-    let zero_ : k + 0 ≡ k = omega arith in
-    let read : get_or s k 0 ≡ get_or needle 0 0 = rw zero_ at (occurs.reads 0 some) in
-    let small = ending_ascii needle 0 ends some in
-    IsCharBoundary-before_ascii s k (omega arith) (omega arith)
 
 pub cut_behind : (needle s : List ℕ) (k : ℕ) → is_ending needle ≡ true → IsUtf8 s → OccursAt s needle k → IsCharBoundary s (k + length needle)
 cut_behind needle s k ends u occurs =

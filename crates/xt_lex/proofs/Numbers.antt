@@ -4,11 +4,9 @@ use Rattle.std.proofs.Math.Nat.{mul-le-mul_left}
 use Rattle.std.proofs.lemmas.Bool.{cases_lt, cases_Bool}
 use Rattle.std.proofs.lemmas.Bool.Decides.{nat_tests}
 use Rattle.std.proofs.lemmas.List.{drop_more}
-use Rattle.std.specs.Char.{IsScalar}
 use Rattle.xt_spec.specs.Char.{is_char}
 use Rattle.xt_spec.specs.Reference.{digit_value, number_behind}
 use Rattle.xt_lex.specs.Scan.{named}
-use Rattle.xt_lex.proofs.Utf8.{char_scalar}
 
 -- a further digit makes no number smaller
 grown : (base n d : ℕ) → 0 < base → n ≤ n * base + d
@@ -39,11 +37,6 @@ next_digit base n k ds d some within is =
     capped base (n * base + digit_value d) (drop (k + 1) ds) some
     ∙ ap (λ d. min (number_behind base (n * base + digit_value d) (drop (k + 1) ds)) 1114112) (sym is)
     ∙ ap (λ r. min (number_behind base n r) 1114112) (sym (drop_more ds k 0 within))
-
-pub product_fits : (base n : ℕ) → base ≤ 16 → n ≤ 1114112 → n * base ≤ 17825792
-product_fits base n b h =
-    let one = mul-le-mul_left n b in
-    omega arith
 
 char_small : (c : ℕ) → is_char c ≡ true → c < 1114112
 char_small c h = grind (arith, nat_tests)
@@ -77,10 +70,3 @@ named_not base digits c e h =
     let n = number_behind base 0 digits in
     let test : is_char n ≡ false = sym (capped_char n) ∙ ap is_char (sym e) ∙ h in
     rw test refl
-
-pub named_no_scalar : (base : ℕ) (digits : List ℕ) (c : ℕ) → c ≡ min (number_behind base 0 digits) 1114112 → (IsScalar c → ⊥) → None ≡ named base digits
-named_no_scalar base digits c e refuses =
-    elim (cases_Bool (is_char c)) [
-      | inl h ↦ absurd (refuses (char_scalar c h))
-      | inr h ↦ named_not base digits c e h
-    ]

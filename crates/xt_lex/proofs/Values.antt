@@ -7,7 +7,6 @@ use Rattle.std.proofs.lemmas.Str.{encode_ascii, length-encode, len_utf8_bounds, 
 use Rattle.std.specs.List.{list_all, prefix_len, AllByRecursion, concat}
 use Rattle.std.specs.Str.{IsUtf8, chars}
 use lib.Utf8.{scalars}
-use Rattle.xt_spec.specs.Char.{is_space}
 use Rattle.xt_spec.specs.Name.{IsSpeltBy}
 use Rattle.xt_spec.specs.Tag.{IsReference, is_value_char, IsValuePart, IsQuote, IsAttValue}
 use Rattle.xt_spec.specs.Token.{TokenKind, char_ref, entity_ref}
@@ -260,18 +259,16 @@ value_again q v r passes lacks =
     let back : drop_while test (v ++ (q ∷ r)) ≡ q ∷ r = drop_while_append test v (q ∷ r) lacks ∙ rw same refl in
     rw front (rw passes (rw back (rw same refl)))
 
-quote_begins : (q : ℕ) (x r : List ℕ) → IsQuote q → after_value q x ≡ Some r → (after_quoted (q ∷ x) ≡ Some r) × (drop_while is_space (q ∷ x) ≡ q ∷ x)
+quote_begins : (q : ℕ) (x r : List ℕ) → IsQuote q → after_value q x ≡ Some r → after_quoted (q ∷ x) ≡ Some r
 quote_begins q x r (inl e) found =
     let test : (eqb q 34 || eqb q 39) ≡ true = rw e refl in
-    let solid : is_space q ≡ false = rw e refl in
-    (rw test found, rw solid refl)
+    rw test found
 quote_begins q x r (inr e) found =
     let test : (eqb q 34 || eqb q 39) ≡ true = rw e refl in
-    let solid : is_space q ≡ false = rw e refl in
-    (rw test found, rw solid refl)
+    rw test found
 
-pub quoted_again : (p r : List ℕ) → IsAttValue p → (after_quoted (p ++ r) ≡ Some r) × (drop_while is_space (p ++ r) ≡ p ++ r)
+pub quoted_again : (p r : List ℕ) → IsAttValue p → after_quoted (p ++ r) ≡ Some r
 quoted_again p r (q, parts, is, made, split) =
     let whole : p ++ r ≡ q ∷ (concat parts ++ (q ∷ r)) = ap (λ t. t ++ r) split ∙ ap (λ t. q ∷ t) (append_assoc (concat parts) (q ∷ []) r) in
     let found = value_again q (concat parts) r (value_passes q parts made) (value_lacks q parts is made) in
-    subst (λ t. (after_quoted t ≡ Some r) × (drop_while is_space t ≡ t)) (sym whole) (quote_begins q (concat parts ++ (q ∷ r)) r is found)
+    subst (λ t. after_quoted t ≡ Some r) (sym whole) (quote_begins q (concat parts ++ (q ∷ r)) r is found)
