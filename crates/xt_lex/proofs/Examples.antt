@@ -1,16 +1,21 @@
 -- The definitions computed on right and on wrong cases.
 use Rattle.std.proofs.Common.{◌≡◌, ℕ, true, false, refl, ◌∷◌, ◌++◌, inl, inr, [], Some, None, codes, arith}
+use Rattle.xt_lex.specs.DoctypeDecl.{system_literal, pubid_literal, system_id, public_id, external_id, external, bracketed, brackets, doctype_decl}
+use Rattle.xt_lex.specs.QName.{q_name}
+use Rattle.xt_lex.specs.Tag.{att_value, attribute, open_end, open_tag, closing_tag, tag}
 use Rattle.xt_lex.specs.XmlDecl.{version, encoding, standalone, declared_values}
+use Rattle.std.specs.Str.{chars}
 use Rattle.xt_spec.specs.Declaration.{is_version_num, is_enc_name, is_yes_or_no, is_utf8_or_absent, Declaration, IsDeclarationOf, is_xml_declaration, is_text_declaration}
 use Rattle.xt_spec.specs.Doctype.{is_pubid_char, literal_part, comment_part, pi_part, other_part, AreSubsetParts, IsSubset, IsDoctype}
 use Rattle.xt_spec.specs.Markup.{lacks, IsCDataSection, IsComment, is_reserved, IsPi}
 use Rattle.xt_spec.specs.Char.{is_char}
 use Rattle.xt_spec.specs.Tag.{Attribute}
-use Rattle.xt_spec.specs.Token.{char_data, end_tag, IsFront, IsLongestFront}
+use Rattle.xt_spec.specs.Token.{char_data, empty_tag, end_tag, IsFront, IsLongestFront}
 use Rattle.xt_lex.specs.Fast.{is_plain_name}
+use Rattle.xt_scan.specs.Step.{many_read}
 use Rattle.xt_lex.specs.NameTest.{is_name_byte}
 use Rattle.xt_lex.specs.Place.{Follows, EndsName, EndsTag, AreSpansOf}
-use Rattle.xt_lex.specs.Scan.{take_while, drop_while}
+use Rattle.xt_lex.specs.Scan.{take_while, drop_while, many, after_marked, after_less}
 use Rattle.xt_lex.proofs.Utf8.{ascii}
 use Rattle.xt_lex.proofs.Spelling.{spelt_ascii}
 use Rattle.xt_lex.proofs.Spelled.{plain_is_ncname, space_spells}
@@ -198,3 +203,30 @@ reads_no_encoding_before_a_version = refl
 reads_no_standalone_alone : declared_values.read (codes " standalone=\"yes\"?>") ≡ None
 unfolding declared_values version encoding standalone
 reads_no_standalone_alone = refl
+
+-- the form of a name: it takes the name alone, and none begins with a digit
+reads_a_name : q_name.read (codes "a:b c") ≡ Some (codes "a:b", codes " c")
+unfolding q_name chars
+reads_a_name = refl
+
+reads_no_name : q_name.read (codes "1a") ≡ None
+unfolding q_name chars
+reads_no_name = refl
+
+-- the forms of tags: one with an attribute, and an end-tag with one
+reads_an_empty_tag : tag.read (codes "<a n='v' />b") ≡ Some (empty_tag, codes "b")
+unfolding tag open_tag closing_tag open_end attribute att_value q_name chars many_read
+reads_an_empty_tag = refl
+
+reads_no_end_tag_with_an_attribute : tag.read (codes "</a n='v'>") ≡ None
+unfolding tag open_tag closing_tag open_end attribute att_value q_name chars many_read
+reads_no_end_tag_with_an_attribute = refl
+
+-- the form of a DOCTYPE declaration: its name, and none with an external identifier that has no literal
+reads_a_doctype : doctype_decl.read (codes " a SYSTEM 'b' [<]>c") ≡ Some (codes "a", codes "c")
+unfolding doctype_decl external external_id system_id public_id system_literal pubid_literal brackets bracketed q_name chars many after_marked after_less
+reads_a_doctype = refl
+
+reads_no_doctype_without_a_literal : doctype_decl.read (codes " a SYSTEM>") ≡ None
+unfolding doctype_decl external external_id system_id public_id system_literal pubid_literal brackets bracketed q_name chars many after_marked after_less
+reads_no_doctype_without_a_literal = refl

@@ -4,11 +4,9 @@ use Rattle.std.proofs.Math.Nat.{mul-le-mul_left}
 use Rattle.std.proofs.lemmas.Bool.{cases_lt, cases_Bool}
 use Rattle.std.proofs.lemmas.Bool.Decides.{nat_tests}
 use Rattle.std.proofs.lemmas.List.{drop_more}
-use Rattle.std.specs.Char.{IsScalar}
 use Rattle.xt_spec.specs.Char.{is_char}
 use Rattle.xt_spec.specs.Reference.{digit_value, number_behind}
 use Rattle.xt_lex.specs.Scan.{named}
-use Rattle.xt_lex.proofs.Utf8.{char_scalar}
 
 -- a further digit makes no number smaller
 grown : (base n d : ℕ) → 0 < base → n ≤ n * base + d

@@ -7,7 +7,6 @@ use Rattle.std.proofs.lemmas.Str.{encode_ascii, length-encode, len_utf8_bounds, 
 use Rattle.std.specs.List.{list_all, prefix_len, AllByRecursion, concat}
 use Rattle.std.specs.Str.{IsUtf8, chars}
 use lib.Utf8.{scalars}
-use Rattle.xt_spec.specs.Char.{is_space}
 use Rattle.xt_spec.specs.Name.{IsSpeltBy}
 use Rattle.xt_spec.specs.Tag.{IsReference, is_value_char, IsValuePart, IsQuote, IsAttValue}
 use Rattle.xt_spec.specs.Token.{TokenKind, char_ref, entity_ref}
