@@ -1,5 +1,5 @@
 #!/usr/bin/env python3
-"""Runs the gate and tells what each crate costs it: processor seconds for its proof, its must-fail edits and its tests.
+"""Runs the gate and tells what each crate costs it: processor seconds for its proof (and what is built of it), its must-fail edits and its tests.
 
 usage: bench/gate.py [WORDS OF rt ci]
 
@@ -16,7 +16,7 @@ from pathlib import Path
 TOP = Path(__file__).resolve().parent.parent
 TICKS = os.sysconf("SC_CLK_TCK")
 SECONDS_A_LOOK = 0.2
-KINDS = ["proof", "edits", "tests", "programs"]
+KINDS = ["proof", "edits", "tests"]
 
 
 def crates():
@@ -27,9 +27,7 @@ def crates():
 def kind_of(words, folder):
     if "rt-edit-" in folder:
         return "edits"
-    if "--test" in words:
-        return "tests"
-    return "proof" if words[1:2] == ["check"] else "programs"
+    return "tests" if "--test" in words else "proof"
 
 
 class Watch(threading.Thread):
