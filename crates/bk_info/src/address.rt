@@ -1,5 +1,5 @@
 //! Where nodes stand: what they came from, the paths of their items, and the references through which they came.
-ghost use Rattle.std.specs.Prelude.{◌≡◌, [], ◌∷◌, ◌++◌, IfOk, OnOk, MatchOption};
+ghost use Rattle.std.specs.Prelude.{◌≡◌, [], ◌∷◌, ◌++◌, ◌<◌, ◌^◌, IfOk, OnOk, MatchOption};
 ghost use Rattle.bk_info.specs.Address.{reference_at, via_behind};
 
 use crate::origin::Origin;
@@ -246,6 +246,7 @@ impl Siblings {
     /// an index of 2^32 or more.
     pub fn address(&self, index: usize) -> Result<Address, AllocError>
         ensures value { IfOk result (λ address. address ≡ record { origin = self.now.origin; path = self.now.path ++ index ∷ []; via = self.now.via }) }
+        ensures small { IfOk result (λ address. index < 2 ^ 32) }
     {
         let Ok(index) = u32::try_from(index) else {
             return Err(AllocError);

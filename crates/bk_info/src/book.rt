@@ -3,7 +3,7 @@ use crate::node::Node;
 use crate::origin::Role;
 use bk_name::Name;
 use sqlite_items::Items;
-use xt_tree::Src;
+use xt_tree::Tape;
 
 /// As what a file is asked for: in one of the roles of nodes, or for its declarations.
 #[derive(Clone, Copy, Debug, PartialEq, Eq)]
@@ -30,7 +30,7 @@ pub struct Asked {
 pub struct Reading {
     pub name: Name,
     pub role: Role,
-    pub items: Items<Src>,
+    pub items: Tape,
 }
 
 /// The tree of a book: the nodes of its root, with what is shown in the place of references and inclusions.

@@ -1,5 +1,6 @@
 pub mod DoingLemmas
 pub mod TellingLemmas
+pub mod CountLemmas
 pub mod RunLemmas
 pub mod StopLemmas
 mod Examples

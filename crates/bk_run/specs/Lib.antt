@@ -4,3 +4,4 @@ pub mod Doing
 pub mod Telling
 pub mod Runs
 pub mod Input
+pub mod Counts

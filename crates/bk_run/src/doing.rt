@@ -1,5 +1,5 @@
 //! A command is carried out over a session and a disk.
-ghost use Rattle.std.specs.Prelude.{◌≡◌, ◌≤◌, ◌+◌, IsTrue, IfOk, OnOk, IsErrOf};
+ghost use Rattle.std.specs.Prelude.{◌≡◌, ◌≤◌, ◌+◌, IsTrue, IfOk, OnOk, IsOk, IsErrOf};
 ghost use Rattle.xt_spec.specs.Limit.{most_file_bytes};
 ghost use Rattle.bk_desk.specs.Disk.{DiskState};
 ghost use Rattle.bk_desk.specs.CrashPoints.{AtEachCrash};
@@ -8,7 +8,9 @@ ghost use Rattle.jr_burst.specs.Commit.{IsClosed};
 ghost use Rattle.ed_edit.specs.View.{edit_of};
 ghost use Rattle.ed_session.specs.Burst.{MayCrashInBurst};
 ghost use Rattle.ed_spec.specs.Session as model;
+ghost use Rattle.ed_session.specs.Start.{TakesSteps};
 ghost use Rattle.bk_run.specs.Replies.{reply_of};
+ghost use Rattle.bk_run.specs.Counts.{steps_of};
 ghost use Rattle.bk_run.specs.Doing.{asked_of, Stands, IsDone, MayCrashIn};
 
 use crate::replies::Reply;
@@ -29,6 +31,8 @@ fn make_edit<L: Ledger>(
     ensures value { (s : model.Session) (disk : DiskState) → Stands session.old disk s → IfOk result (λ reply. IsDone session.old.root s (model.edit (edit_of edit.now)) (reply_of reply) session.new disk) }
     ensures fault { IsErrOf result Stop.Fault → ⊥ }
     ensures count { (steps.old ≤ steps.new) × (steps.new ≤ steps.old + most_file_bytes) }
+    ensures exact { (s next : model.Session) (reply : model.Reply) (disk : DiskState) → Stands session.old disk s → model.Does session.old.root s (model.edit (edit_of edit.now)) reply next
+        → TakesSteps (IsOk result) (steps_of session.old.root (model.edit (edit_of edit.now)) (record { reply = reply; session = next })) steps.old steps.new }
 {
     match session.edit(edit, steps) {
         Ok(()) => Ok(Reply::Done),
@@ -68,6 +72,8 @@ pub(crate) fn perform<D: Desk, L: Ledger>(
     ensures no_fault { StaysFaultless D.faultless D.faults desk.old desk.new }
     ensures cause_desk { HasCause (D.faults desk.old) (D.faults desk.new) (IsErrOf result Stop.Fault) }
     ensures count { (steps.old ≤ steps.new) × (steps.new ≤ steps.old + most_file_bytes) }
+    ensures exact { IsTrue D.tells → (s next : model.Session) (reply : model.Reply) → Stands session.old (D.standing desk.old) s → model.Does session.old.root s (asked_of command.now) reply next
+        → TakesSteps (IsOk result) (steps_of session.old.root (asked_of command.now) (record { reply = reply; session = next })) steps.old steps.new }
 {
     match command {
         Command::Edit(edit) => make_edit(session, edit, steps),

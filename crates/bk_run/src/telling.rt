@@ -1,5 +1,5 @@
 //! Commands are carried out one after the other, and the reply to each is told.
-ghost use Rattle.std.specs.Prelude.{◌≡◌, ◌≤◌, ◌+◌, ◌*◌, ◌++◌, ℕ, List, IsTrue, IfOk, OnOk, IsErrOf, take, map, length};
+ghost use Rattle.std.specs.Prelude.{◌≡◌, ◌≤◌, ◌+◌, ◌*◌, ◌++◌, ℕ, List, IsTrue, IfOk, OnOk, IsOk, IsErrOf, take, map, length};
 ghost use Rattle.xt_spec.specs.Limit.{most_file_bytes};
 ghost use Rattle.bk_desk.specs.Disk.{Tells, TellsPrefix, WhileTelling};
 ghost use Rattle.bk_desk.specs.CrashPoints.{AtEachCrash};
@@ -7,7 +7,9 @@ ghost use Rattle.bk_desk.specs.Cause.{HasCause, StaysFaultless};
 ghost use Rattle.jr_burst.specs.Commit.{IsClosed};
 ghost use Rattle.bk_script.specs.View.{command_of};
 ghost use Rattle.ed_spec.specs.Session as model;
+ghost use Rattle.ed_session.specs.Start.{TakesSteps};
 ghost use Rattle.bk_run.specs.Replies.{reply_of, reply_text, replies_text, AreCommandsOf};
+ghost use Rattle.bk_run.specs.Counts.{steps_of, all_steps};
 ghost use Rattle.bk_run.specs.Stops.{IsOfOneBurst};
 ghost use Rattle.bk_run.specs.Doing.{asked_of, Stands};
 ghost use Rattle.bk_run.specs.Telling.{IsTold, AreTold, MayStop};
@@ -53,6 +55,8 @@ fn answer<D: Desk, L: Ledger>(
     ensures no_fault { StaysFaultless D.faultless D.faults desk.old desk.new }
     ensures cause_desk { HasCause (D.faults desk.old) (D.faults desk.new) (IsErrOf result Stop.Fault) }
     ensures count { (steps.old ≤ steps.new) × (steps.new ≤ steps.old + most_file_bytes) }
+    ensures exact { IsTrue D.tells → (s next : model.Session) (reply : model.Reply) → Stands session.old (D.standing desk.old) s → model.Does session.old.root s (asked_of command.now) reply next
+        → TakesSteps (IsOk result) (steps_of session.old.root (asked_of command.now) (record { reply = reply; session = next })) steps.old steps.new }
 {
     let reply = perform(session, command, desk, steps)?;
     tell_reply(alloc, reply, desk)?;
@@ -83,6 +87,9 @@ pub fn tell_replies<D: Desk, L: Ledger>(
     ensures no_fault { StaysFaultless D.faultless D.faults desk.old desk.new }
     ensures cause_desk { HasCause (D.faults desk.old) (D.faults desk.new) (IsErrOf result Stop.Fault) }
     ensures count { (steps.old ≤ steps.new) × (steps.new ≤ steps.old + length commands.now * most_file_bytes) }
+    ensures exact { IsTrue D.tells → (s last : model.Session) (asked : List model.Command) (replies : List model.Step) → Stands session.old (D.standing desk.old) s
+        → AreCommandsOf (map command_of commands.now) asked → model.DoesAll session.old.root s asked replies last
+        → TakesSteps (IsOk result) (all_steps session.old.root asked replies) steps.old steps.new }
 {
     let mut refused = false;
     for command in commands {

@@ -56,6 +56,7 @@ no_steps root bytes files answer earlier never = record {
   none = λ nothing. refl;
   most = λ of. omega arith;
   least = λ ends of. absurd (never ends);
+  exact = λ of steps tree run. record { most = omega arith; exact = λ ends. absurd (never ends) };
 }
 
 pub not_recovered : (answer status : ℕ) → (IsTrue (recovers_book status) → ⊥) → (answer ≡ status) ⊎ ((answer ≡ 6) ⊎ (answer ≡ 7)) → IsTrue (recovers_book answer) → ⊥
@@ -70,6 +71,9 @@ four_recovers_none ends = let bad : false ≡ true = ends in absurd (cc)
 
 pub five_recovers_none : IsTrue (recovers_book 5) → ⊥
 five_recovers_none ends = let bad : false ≡ true = ends in absurd (cc)
+
+pub eight_recovers_none : IsTrue (recovers_book 8) → ⊥
+eight_recovers_none ends = let bad : false ≡ true = ends in absurd (cc)
 
 pub seven_recovers_none : IsTrue (recovers_book 7) → ⊥
 seven_recovers_none ends = let bad : false ≡ true = ends in absurd (cc)

@@ -1,5 +1,5 @@
 -- The steps behind what a run has told are local.
-use Rattle.std.proofs.Common.{◌≡◌, ◌⊎◌, ℕ, Bool, true, false, ◌||◌, List, [], Option, Some, None, refl, sym, subst, inl, inr}
+use Rattle.std.proofs.Common.{◌≡◌, ◌⊎◌, ℕ, Bool, true, false, ◌||◌, List, Option, Some, None, refl, sym, subst, inl, inr}
 use Rattle.std.specs.Prelude.{◌==◌, IsTrue}
 use Rattle.bk_desk.specs.Disk.{DiskState, CrashState}
 use Rattle.jr_burst.specs.SavedFiles.{recovered_files}

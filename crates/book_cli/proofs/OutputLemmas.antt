@@ -91,7 +91,7 @@ ends_shut root _ _ _ _ (nothing s) shut = shut
 ends_shut root _ _ _ _ (then s next last command commands reply steps does all) shut = ends_shut root next last commands steps all (stays_shut root s next command reply does shut)
 
 -- no run is over a book whose root doesn't open
-no_run : (root : List ℕ) (commands : List script.Command) (book : Book) (steps : List Step) (tree : List ℕ)
+pub no_run : (root : List ℕ) (commands : List script.Command) (book : Book) (steps : List Step) (tree : List ℕ)
     → ((bytes : List ℕ) (items : Items) → Opens root book bytes items → ⊥) → IsRun root commands book steps tree → ⊥
 no_run root commands book steps tree never run =
     let shut : IsShut root run.last = ends_shut root (opened root book) run.last run.asked steps run.does (record { never = never; past = refl; future = refl }) in
@@ -114,7 +114,7 @@ root_fault_once root file a b (faulty bytes found fits fault) (longer others als
 root_fault_once root file a b (faulty bytes found fits fault) (faulty others also size other) =
     document_fault_once root others a b (subst (λ (l : List ℕ). IsDocumentFault root l a) (some_same (List ℕ) bytes others file found also) fault) other
 
-fault_shuts : (root : List ℕ) (book : Book) (fault : Fault) → IsRootFault root (book root) fault → (bytes : List ℕ) (items : Items) → Opens root book bytes items → ⊥
+pub fault_shuts : (root : List ℕ) (book : Book) (fault : Fault) → IsRootFault root (book root) fault → (bytes : List ℕ) (items : Items) → Opens root book bytes items → ⊥
 fault_shuts root book fault (absent none is) bytes items opens = none_some (List ℕ) bytes (book root) none opens.found
 fault_shuts root book fault (longer others found more is) bytes items opens = too_long others bytes (some_same (List ℕ) others bytes (book root) found opens.found) more opens.opens.size
 fault_shuts root book fault (faulty others found fits cause) bytes items opens =

@@ -1,5 +1,5 @@
 -- What a run over the commands of a script leaves, from what its parts leave.
-use Rattle.std.proofs.Common.{◌≡◌, ◌≤◌, ◌+◌, ◌*◌, ◌∙◌, ◌⊎◌, ℕ, List, [], ◌++◌, Bool, true, false, Option, Some, None, length, take, refl, sym, ap, ap₂, subst, arith, inl, inr, ⊎_elim}
+use Rattle.std.proofs.Common.{◌≡◌, ◌≤◌, ◌+◌, ◌*◌, ◌∙◌, ◌⊎◌, ℕ, List, [], ◌++◌, Bool, true, false, Option, Some, None, length, take, refl, sym, ap, subst, arith, inl, inr, ⊎_elim}
 use Rattle.std.specs.Prelude.{IsTrue, IfSome}
 use Rattle.std.proofs.Math.Path.{fun_ext}
 use Rattle.std.proofs.Math.Seq.{take-length}
@@ -13,17 +13,20 @@ use Rattle.jr_burst.specs.SavedFiles.{Files, book_files, overlaid, names, is_ope
 use Rattle.jr_burst.specs.Recover.{RecoversAlike, IsUnnamed, IsStartOrRecovered, IsRecovered, IsOnlySynced}
 use Rattle.jr_burst.proofs.Theorems.{open_recovers, closed_recovers, overlaid_other}
 use Rattle.ed_spec.specs.Book.{Book}
-use Rattle.ed_spec.specs.Session.{Step}
+use Rattle.ed_spec.specs.Session.{Session, Command, Step, opened, DoesAll}
 use Rattle.bk_script.specs.Command as script
 use Rattle.bk_script.specs.Script.{IsScript}
 use Rattle.bk_script.proofs.Theorems.{one_reading}
-use Rattle.ed_session.specs.Start.{file_steps, recovered_steps}
-use Rattle.bk_run.specs.Replies.{replies_text}
+use Rattle.ed_session.specs.Start.{file_steps, recovered_steps, TakesSteps}
+use Rattle.bk_spec.specs.Fault.{Fault}
+use Rattle.bk_spec.specs.FirstFault.{IsRootFault}
+use Rattle.bk_run.specs.Replies.{AreCommandsOf, replies_text}
+use Rattle.bk_run.specs.Counts.{all_steps}
 use Rattle.bk_run.specs.Stops.{IsOfOneBurst}
 use Rattle.book_cli.specs.Output.{journal_line, is_exit_status, WritesOutput, WritesPrefix, IsBookRun, ran, status_after, damaged, recovered, RootOutput}
 use Rattle.book_cli.specs.Leaves.{RecoveredBook, recovers_book, IsWhileSaving, MayCrashIn, early, still, recovering, saving, AreSavedBy, TakesRunSteps}
 use Rattle.book_cli.specs.Ends.{AnswersWith, whole, cut, IsToldWith, IsSessionRun, IsRunOver}
-use Rattle.book_cli.proofs.OutputLemmas.{some_same, none_some}
+use Rattle.book_cli.proofs.OutputLemmas.{some_same, none_some, no_run, fault_shuts}
 
 -- ---- what was told
 
@@ -124,18 +127,68 @@ saving_crash start mid steps last crash is at = record {
 most_steps : (earlier mid now size same_size count same_count : ℕ) → mid ≡ earlier + size → now ≤ mid + count * most_file_bytes → size ≡ same_size → count ≡ same_count → now ≤ earlier + (same_size + same_count * most_file_bytes)
 most_steps earlier mid now size same_size count same_count read more a b = omega (arith, read, more, a, b)
 
-pub opened_steps : (root bytes : List ℕ) (files : DiskImage) (commands : List script.Command) (book : Book) (answer earlier mid now count : ℕ) → IsScript bytes commands → recovered_files files ≡ Some book
-    → mid ≡ earlier + recovered_steps root (recovered_files files) → mid ≤ now → now ≤ mid + count * most_file_bytes → count ≡ length commands → TakesRunSteps (Some root) bytes files answer earlier now
-opened_steps root bytes files commands book answer earlier mid now count reads found read later more counted = record {
-  none = λ never. absurd (never (over root bytes files commands book reads found));
-  most = λ of.
-      let same = book_same root bytes files commands book of reads found in
-      most_steps earlier mid now (recovered_steps root (recovered_files files)) (file_steps (of.book of.name)) count (length of.commands) read more (size of) (counted ∙ ap (λ (l : List script.Command). length l) same.1);
-  least = λ ends of. let sized = size of in omega (arith, read, later, sized);
-}
-  where
-    size : (of : RecoveredBook (Some root) bytes files) → recovered_steps root (recovered_files files) ≡ file_steps (of.book of.name)
-    size of = let same = book_same root bytes files commands book of reads found in ap (recovered_steps root) found ∙ ap₂ (λ (b : Book) (r : List ℕ). file_steps (b r)) same.2 same.0
+module _ (root bytes : List ℕ) (files : DiskImage) (commands : List script.Command) (reads : IsScript bytes commands) where
+  -- the root of the book that is recovered
+  root_steps : (of : RecoveredBook (Some root) bytes files) → recovered_steps root (recovered_files files) ≡ file_steps (of.book of.name)
+  root_steps of =
+      let named = some_same (List ℕ) root of.name (Some root) refl of.named in
+      ap (recovered_steps root) of.found ∙ ap (λ (r : List ℕ). file_steps (of.book r)) named
+
+  none_recovered : (earlier now : ℕ) → earlier ≤ now → now ≤ earlier + recovered_steps root (recovered_files files) → (RecoveredBook (Some root) bytes files → ⊥) → now ≡ earlier
+  none_recovered earlier now later most never = by (recovered_files files) refl
+    where
+      by : (o : Option Files) → recovered_files files ≡ o → now ≡ earlier
+      by None is = let none : recovered_steps root (recovered_files files) ≡ 0 = ap (recovered_steps root) is in omega (arith, later, most, none)
+      by (Some book) is = absurd (never (over root bytes files commands book reads is))
+
+  most_of : (of : RecoveredBook (Some root) bytes files) (earlier now : ℕ) → now ≤ earlier + recovered_steps root (recovered_files files) → (n : ℕ) → now ≤ earlier + (file_steps (of.book of.name) + n)
+  most_of of earlier now most n = let size = root_steps of in omega (arith, most, size)
+
+  -- the run ended before the commands
+  pub early_steps : (sure : Type 0) (answer earlier now : ℕ) → earlier ≤ now → (IsTrue (recovers_book answer) → ⊥) → TakesSteps sure (recovered_steps root (recovered_files files)) earlier now → TakesRunSteps (Some root) bytes files answer earlier now
+  early_steps sure answer earlier now later never takes = record {
+    none = none_recovered earlier now later takes.most;
+    most = λ of. most_of of earlier now takes.most _;
+    least = λ ends of. absurd (never ends);
+    exact = λ of steps tree run. record { most = most_of of earlier now takes.most _; exact = λ ends. absurd (never ends) };
+  }
+
+  -- .. since the root has a fault
+  pub closed_steps : (book : Book) (fault : Fault) (answer earlier now : ℕ) → earlier ≤ now → recovered_files files ≡ Some book → IsRootFault root (book root) fault → now ≡ earlier + recovered_steps root (recovered_files files)
+      → TakesRunSteps (Some root) bytes files answer earlier now
+  closed_steps book fault answer earlier now later found cause takes = record {
+    none = none_recovered earlier now later (omega (arith, takes));
+    most = λ of. most_of of earlier now (omega (arith, takes)) _;
+    least = λ ends of. let size = root_steps of in omega (arith, takes, size);
+    exact = λ of steps tree run.
+        let same = book_same root bytes files commands book of reads found in
+        absurd (no_run of.name of.commands of.book steps tree (fault_shuts of.name of.book fault (subst (λ (o : Option (List ℕ)). IsRootFault of.name o fault) (ap of.book same.0) (at of same cause))) run);
+  }
+    where
+      at : (of : RecoveredBook (Some root) bytes files) → (root ≡ of.name) × (commands ≡ of.commands) × (book ≡ of.book) → IsRootFault root (book root) fault → IsRootFault of.name (of.book root) fault
+      at of same is = subst (λ (r : List ℕ). IsRootFault r (of.book root) fault) same.0 (subst (λ (b : Book). IsRootFault root (b root) fault) same.2 is)
+
+  -- the commands were carried out over the recovered book, or some of them
+  pub opened_steps : (book : Book) (answer earlier mid now count : ℕ) → recovered_files files ≡ Some book
+      → mid ≡ earlier + recovered_steps root (recovered_files files) → mid ≤ now → now ≤ mid + count * most_file_bytes → count ≡ length commands
+      → ((asked : List Command) (steps : List Step) (last : Session) → AreCommandsOf commands asked → DoesAll root (opened root book) asked steps last → TakesSteps (IsTrue (recovers_book answer)) (all_steps root asked steps) mid now)
+      → TakesRunSteps (Some root) bytes files answer earlier now
+  opened_steps book answer earlier mid now count found read later more counted takes = record {
+    none = λ never. absurd (never (over root bytes files commands book reads found));
+    most = λ of.
+        let same = book_same root bytes files commands book of reads found in
+        most_steps earlier mid now (recovered_steps root (recovered_files files)) (file_steps (of.book of.name)) count (length of.commands) read more (root_steps of) (counted ∙ ap (λ (l : List script.Command). length l) same.1);
+    least = λ ends of. let size = root_steps of in omega (arith, read, later, size);
+    exact = λ of steps tree run.
+        let same = book_same root bytes files commands book of reads found in
+        let size = root_steps of in
+        let asks = subst (λ (l : List script.Command). AreCommandsOf l run.asked) (sym same.1) run.asks in
+        let does = subst (λ (b : Book). DoesAll root (opened root b) run.asked steps run.last) (sym same.2) (subst (λ (r : List ℕ). DoesAll r (opened r of.book) run.asked steps run.last) (sym same.0) run.does) in
+        let count = takes run.asked steps run.last asks does in
+        let named : all_steps root run.asked steps ≡ all_steps of.name run.asked steps = ap (λ (r : List ℕ). all_steps r run.asked steps) same.0 in
+        let most = count.most in
+        record { most = omega (arith, read, size, named, most); exact = λ ends. let exact = count.exact ends in omega (arith, read, size, named, exact) };
+  }
 
 -- ---- runs
 

@@ -19,9 +19,10 @@ use Rattle.jr_burst.specs.SavedFiles.{book_files, is_open_gate, recovered_files}
 use Rattle.jr_burst.specs.Recover.{IsUnnamed, IsStartOrRecovered}
 use Rattle.bk_script.specs.Command as script
 use Rattle.bk_script.specs.Script.{IsScript}
-use Rattle.ed_session.specs.Start.{file_steps}
+use Rattle.ed_session.specs.Start.{file_steps, TakesSteps}
+use Rattle.bk_run.specs.Counts.{all_steps}
 use Rattle.bk_run.specs.Stops.{saved_after, IsSameInAll, IsOfOneBurst}
-use Rattle.book_cli.specs.Output.{RootOutput, IsBookRun}
+use Rattle.book_cli.specs.Output.{RootOutput, IsRun, IsBookRun}
 
 -- the words name this root, the script asks for these commands, and the files recover to this book
 pub record RecoveredBook (root : Option (List ℕ)) (bytes : List ℕ) (files : DiskImage) : Type 0 where
@@ -73,8 +74,11 @@ pub record IsBookSaved (root : Option (List ℕ)) (bytes : List ℕ) (start now 
   pub saved : AreSavedBy of.book steps now
 
 -- No step where no book is recovered. Else at most one a byte of the root, and 4,194,304 a command; and with the output of
--- such a run not less than one a byte of the root.
+-- such a run not less than one a byte of the root. Where the root opens, one a byte of it and those of the edits that were
+-- made, exactly with the output of such a run, and at most where the run ended early.
 pub record TakesRunSteps (root : Option (List ℕ)) (bytes : List ℕ) (files : DiskImage) (answer earlier now : ℕ) : Type 0 where
   pub none : (RecoveredBook root bytes files → ⊥) → now ≡ earlier
   pub most : (of : RecoveredBook root bytes files) → now ≤ earlier + (file_steps (of.book of.name) + length of.commands * most_file_bytes)
   pub least : IsTrue (recovers_book answer) → (of : RecoveredBook root bytes files) → earlier + file_steps (of.book of.name) ≤ now
+  pub exact : (of : RecoveredBook root bytes files) (steps : List Step) (tree : List ℕ) (run : IsRun of.name of.commands of.book steps tree)
+      → TakesSteps (IsTrue (recovers_book answer)) (file_steps (of.book of.name) + all_steps of.name run.asked steps) earlier now

@@ -1,5 +1,5 @@
 //! The current folder and an output.
-ghost use Rattle.std.specs.Prelude.{◌≡◌, ◌≢◌, ◌⊎◌, ◌↔◌, ◌++◌, ◌<◌, [], ◌∷◌, length, map, true, false, IsTrue, IfOk, OnOk, OnErr, IsErrOf};
+ghost use Rattle.std.specs.Prelude.{◌≡◌, ◌≢◌, ◌⊎◌, ◌↔◌, ◌++◌, ◌<◌, [], ◌∷◌, length, map, true, false, IsTrue, IfOk, OnOk, OnErr, IsOk, IsSome, IsErrOf};
 ghost use Rattle.std.specs.IoError.{error_kind};
 ghost use Rattle.std.specs.Io.KnownBytes.{Appends};
 ghost use Rattle.bk_desk.specs.declared.desk_name.DeskName.TheVariants.{Journal, Gate};
@@ -242,6 +242,8 @@ impl<R: Files<File = File> + Drop, W: Write + Drop> RealDesk<R, W> {
 
     /// Before all else of a run on the disk: the lock, and no trial of an earlier run.
     fn begin(&mut self) -> io::Result<()>
+        ensures value { OnOk result (IsSome self.new.folder) }
+        ensures exact { IsSome self.old.folder → IsOk result × (self.new ≡ self.old) }
         ensures others { (self.new.unsynced ≡ self.old.unsynced) × ((self.new.in_place ≡ self.old.in_place) × (self.new.has_synced ≡ self.old.has_synced)) }
         ensures same { (self.new.faults ≡ self.old.faults) × (self.new.refused ≡ self.old.refused) }
     {

@@ -6,7 +6,11 @@ ghost use Rattle.bk_desk.specs.CrashPoints.{AtEachCrash};
 ghost use Rattle.bk_desk.specs.Cause.{Rose, HasCause, StaysFaultless};
 ghost use Rattle.jr_burst.specs.Commit.{IsClosed};
 ghost use Rattle.bk_script.specs.View.{command_of};
-ghost use Rattle.ed_session.specs.Start.{IsStarted};
+ghost use Rattle.jr_burst.specs.SavedFiles.{book_files};
+ghost use Rattle.ed_spec.specs.Session as model;
+ghost use Rattle.ed_session.specs.Start.{IsStarted, TakesSteps};
+ghost use Rattle.bk_run.specs.Replies.{AreCommandsOf};
+ghost use Rattle.bk_run.specs.Counts.{all_steps};
 ghost use Rattle.bk_script.specs.Script.{IsScript};
 ghost use Rattle.book_cli.specs.Words.{root_of};
 ghost use Rattle.book_cli.specs.Output.{is_book_status, is_script_status, is_exit_status, is_answer, IsOutput, WritesOutput};
@@ -48,6 +52,9 @@ fn run_session<D: Desk, L: Ledger>(
     ensures no_fault { StaysFaultless D.faultless D.faults desk.old desk.new }
     ensures cause_desk { HasCause (D.faults desk.old) (D.faults desk.new) (result ≡ 6) }
     ensures count { (steps.old ≤ steps.new) × (steps.new ≤ steps.old + length commands.now * most_file_bytes) }
+    ensures exact { IsTrue D.tells → (start : DiskState) (asked : List model.Command) (replies : List model.Step) (last : model.Session) → IsStarted session.root start (D.standing desk.old) session
+        → AreCommandsOf (map command_of commands.now) asked → model.DoesAll session.root (model.opened session.root (book_files (D.standing desk.old).files)) asked replies last
+        → TakesSteps (IsTrue (recovers_book result)) (all_steps session.root asked replies) steps.old steps.new }
 {
     match tell_replies(alloc, &mut session, commands, desk, steps) {
         Ok(refused) => tell_tree(alloc, session, refused, desk),

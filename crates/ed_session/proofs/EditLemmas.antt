@@ -1,6 +1,6 @@
 -- From the parts of an edit to its outcome.
-use Rattle.std.proofs.Common.{◌≡◌, ◌∙◌, refl, ℕ, ◌<◌, ◌≤◌, List, length, sym, ap, subst, true, false, Some, Result, Vec, Global, encode_utf8_all}
-use Rattle.std.specs.Prelude.{IfOk}
+use Rattle.std.proofs.Common.{◌≡◌, ◌∙◌, refl, ℕ, ◌+◌, ◌<◌, ◌≤◌, List, length, sym, ap, subst, true, false, Some, Result, Ok, Err, inr, Vec, Global, encode_utf8_all}
+use Rattle.std.specs.Prelude.{IfOk, IsErrAnd}
 use Rattle.std.specs.List.{list_all}
 use Rattle.xt_spec.specs.Limit.{most_file_bytes}
 use Rattle.xt_spec.specs.Char.{is_char}
@@ -22,7 +22,7 @@ use Rattle.ed_laws.proofs.Theorems.{an_edited_document_opens}
 use Rattle.ed_session.specs.declared.refusal.Refusal.TheVariants.{NoSuchPlace, WrongKind, BadRange, BadText, TooLarge}
 use Rattle.ed_session.specs.declared.refusal.EditFault.{EditFault}
 use Rattle.ed_session.specs.declared.refusal.EditFault.TheVariants.{Refused, NoMemory}
-use Rattle.ed_session.specs.Edits.{IsNoText, IsNoValue, IsTooLarge, IsNewText, IsRefusal, IsEditOf, IsEdited}
+use Rattle.ed_session.specs.Edits.{IsNoText, IsNoValue, IsTooLarge, IsNewText, IsRefusal, IsEditOf, IsEdited, CountsBytes}
 use Rattle.ed_session.specs.Kept.{Kept, Opens}
 
 pub no_text_refused : (items : Items) (place new : List ℕ) (from to : ℕ) (e : EditFault) → IsNoText items place e → IsRefusal items (text_edit place from to new) e
@@ -103,6 +103,13 @@ is_edited edit old new bytes out items same opens is new_is = record {
   opens = subst (λ (l : List ℕ). Opens old.root l items) (sym same) opens;
   edited = subst (λ (l : List ℕ). IsEditOf old.root items edit l) (sym (ap (λ (k : Kept). k.bytes) new_is)) is;
 }
+
+-- memory was wanting behind the bytes of the edit
+pub counts_wanting : {A : Type 0} (edit : Edit) (old new made : Kept) (r : Result A EditFault) (earlier now : ℕ) → IsErrAnd r (λ fault. fault ≡ NoMemory) → IsEdited edit old made → now ≡ earlier + length made.bytes
+    → CountsBytes edit old new r earlier now
+counts_wanting edit old new made (Ok done) earlier now wanting is counted = absurd wanting
+counts_wanting edit old new made (Err (Refused refusal)) earlier now wanting is counted = absurd (cc)
+counts_wanting edit old new made (Err NoMemory) earlier now wanting is counted = inr (made, is, counted)
 
 -- what is read again are the items that are known
 pub opens_read : (root bytes : List ℕ) (items again : Items) → Opens root bytes items → IsReading document bytes again → Opens root bytes again

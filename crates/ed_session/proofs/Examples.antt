@@ -6,7 +6,7 @@ use Rattle.xt_spec.specs.Tree.{Items, nil, element, leaf, text_item, gap, elemen
 use Rattle.ed_session.specs.declared.refusal.Refusal.TheVariants.{BadRange, BadText}
 use Rattle.ed_session.specs.declared.refusal.EditFault.TheVariants.{Refused}
 use Rattle.ed_session.specs.Kept.{Kept, saved_of}
-use Rattle.ed_session.specs.Items.{gives_node_item, content, item_count, IsNarrow}
+use Rattle.ed_session.specs.Items.{gives_node_item, item_count, IsNarrow}
 use Rattle.ed_session.specs.Edits.{IsNoValue}
 use Rattle.ed_session.specs.Burst.{IsCount}
 use Rattle.bk_spec.specs.Fault.{missing, too_large}
@@ -42,9 +42,6 @@ IsNarrow-right = (omega arith, (omega arith, tt, tt))
 IsNarrow-wrong : IsNarrow 1 tree → ⊥
 unfolding tree
 IsNarrow-wrong is = absurd (omega (arith, is.0))
-
-content-right : content (element_item (codes "<a>") (leaf text_item (codes "x") nil) (Some (codes "</a>"))) ≡ leaf text_item (codes "x") nil
-content-right = refl
 
 -- without an edit, what is saved is what is there
 saved_of-none : saved_of None (codes "<a/>") ≡ codes "<a/>"

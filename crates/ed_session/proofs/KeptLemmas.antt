@@ -1,5 +1,5 @@
 -- The same bytes with the same items open, and are a file that a save may write.
-use Rattle.std.proofs.Common.{◌≡◌, ℕ, ◌≤◌, List, [], length, Option, Some, None, Ok, Err, ◌∙◌, sym, subst, Vec}
+use Rattle.std.proofs.Common.{◌≡◌, ℕ, ◌≤◌, List, [], length, Option, Some, None, Ok, ◌∙◌, sym, subst, Vec}
 use Rattle.std.specs.Prelude.{IsUtf8}
 use Rattle.std.specs.Global.{Global}
 use Rattle.xt_spec.specs.Limit.{most_file_bytes}

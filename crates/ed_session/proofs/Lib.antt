@@ -3,6 +3,7 @@ pub mod NarrowLemmas
 pub mod VoidLemmas
 pub mod PathLemmas
 pub mod RangeLemmas
+pub mod KindLemmas
 pub mod LeadLemmas
 pub mod EditLemmas
 pub mod BurstLemmas

@@ -8,8 +8,7 @@ use Rattle.xt_spec.specs.Reference.{IsEntityRef}
 use Rattle.xt_spec.specs.Tag.{attribute_text}
 use Rattle.xt_spec.specs.Tree.{Items, nil, element, leaf, text_item, reference_item, comment_item, pi_item, gap, close_text, source_text}
 use Rattle.xt_spec.specs.Reading.{IsElementAt, IsContent, Stage, before_doctype, before_root, behind_root, Leads, document, tag_ending, IsDeclared, IsOrdered}
-use Rattle.xt_read.proofs.Theorems.{comment_begins, pi_begins, doctype_begins}
-use Rattle.ed_text.proofs.Theorems.{text_item_some}
+use Rattle.xt_read.proofs.Theorems.{comment_begins, pi_begins, doctype_begins, text_item_some}
 use Rattle.ed_session.specs.Items.{item_count, AreNarrowWithin, IsNarrow}
 use Rattle.ed_session.specs.Kept.{Opens}
 

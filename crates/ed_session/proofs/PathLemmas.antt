@@ -4,9 +4,12 @@ use Rattle.std.proofs.lemmas.List.{append-nil, drop_all}
 use Rattle.std.proofs.lemmas.Bool.Decides.{nat_tests}
 use Rattle.xt_spec.specs.Tree.{Item, element_item, leaf_item, Items, nil, element, leaf, before}
 use Rattle.ed_spec.specs.Place as spec
-use Rattle.ed_session.specs.Items.{gives_node_item, content, item_count, AreNarrowWithin, IsNarrow}
-use Rattle.xt_tree.specs.declared.source.Src.{Src}
-use Rattle.xt_tree.specs.Meaning.{item_of, items_in}
+use Rattle.ed_session.specs.Items.{gives_node_item, IsChild, item_count, AreNarrowWithin, IsNarrow}
+use Rattle.xt_tree.specs.declared.source.Src.{Src, out-Src}
+use Rattle.xt_tree.specs.declared.source.Src.TheOpen.{Src-F}
+use Rattle.xt_tree.specs.declared.source.Src.TheFolds.{map-Src, fold_out-Src}
+use Rattle.xt_tree.specs.Meaning.{item_of, item_step, items_in}
+use Rattle.xt_tree.specs.Spans.{kids_at, kids_of}
 
 -- the index of a child, where the first item is this one
 pub index_of-before : (item : Item) (rest : Items) (number : ℕ)
@@ -18,79 +21,88 @@ shifted : (i : ℕ) (found : Option ℕ) → option_map (λ k. i + k) (option_ma
 shifted i None = refl
 shifted i (Some k) = ap (λ (n : ℕ). Some n) (omega arith)
 
--- the items from one of them on
-pub items_from : (bytes : List ℕ) (items : List Src) (i : ℕ) (x d : Src) → i < length items → x ≡ get_or items i d
-    → items_in bytes (drop i items) ≡ before (item_of bytes x) (items_in bytes (drop (i + 1) items))
-items_from bytes items i x d below is =
-    let more : suc i ≡ i + 1 = omega arith in
-    let next : drop i items ≡ x ∷ drop (i + 1) items = drop-cons items i d below ∙ rw more (ap (λ (y : Src). y ∷ drop (i + 1) items) (sym is)) in
-    ap (λ (l : List Src). items_in bytes l) next
+-- what an item holds
+pub holds : (bytes : List ℕ) (x : Src) (rest : Items) → spec.content_of (before (item_of bytes x) rest) zero ≡ items_in bytes (kids_of x)
+holds bytes x rest = ap (λ (i : Item). spec.content_of (before i rest) zero) (fold_out-Src Item (item_step bytes) x) ∙ layer (out-Src x)
+  where
+    layer : (y : Src-F Src) → spec.content_of (before (item_step bytes (map-Src Src Item (item_of bytes) y)) rest) zero ≡ items_in bytes (kids_at y)
+    layer (Src-F.Elem tail head kids) = refl
+    layer (Src-F.Text span) = refl
+    layer (Src-F.Ref span) = refl
+    layer (Src-F.Comment span) = refl
+    layer (Src-F.Pi span) = refl
+    layer (Src-F.Gap span) = refl
+
+content_behind : (item : Item) (rest : Items) (k : ℕ) → spec.content_of (before item rest) (suc k) ≡ spec.content_of rest k
+content_behind (element_item open_tag kids close) rest k = refl
+content_behind (leaf_item kind text) rest k = refl
+
+-- what is left to find, among the items that are left, of which the first has this index
+pub record IsLeft (bytes : List ℕ) (level : Items) (number index : ℕ) (left : List Src) (wanted : ℕ) : Type 0 where
+  pub along : spec.index_of level number ≡ option_map (λ k. index + k) (spec.index_of (items_in bytes left) wanted)
+  pub held : (k : ℕ) → spec.content_of level (index + k) ≡ spec.content_of (items_in bytes left) k
+
+pub left_begins : (bytes : List ℕ) (items left : List Src) (number : ℕ) → left ≡ items → IsLeft bytes (items_in bytes items) number 0 left number
+left_begins bytes items left number same = rw same (record { along = none (spec.index_of (items_in bytes items) number); held = λ k. (let e : 0 + k ≡ k = omega arith in ap (λ n. spec.content_of (items_in bytes items) n) e) })
+  where
+    none : (found : Option ℕ) → found ≡ option_map (λ k. 0 + k) found
+    none None = refl
+    none (Some k) = ap (λ (n : ℕ). Some n) (omega arith)
+
+next_held : (bytes : List ℕ) (level : Items) (number i : ℕ) (left rest : List Src) (x : Src) (wanted : ℕ) → left ≡ x ∷ rest → IsLeft bytes level number i left wanted
+    → (k : ℕ) → spec.content_of level ((i + 1) + k) ≡ spec.content_of (items_in bytes rest) k
+next_held bytes level number i left rest x wanted is so_far k =
+    let more : (i + 1) + k ≡ i + suc k = omega arith in
+    ap (λ (n : ℕ). spec.content_of level n) more ∙ so_far.held (suc k) ∙ ap (λ (l : List Src). spec.content_of (items_in bytes l) (suc k)) is ∙ content_behind (item_of bytes x) (items_in bytes rest) k
 
 -- what is found from an item on
-pub found_from : (bytes : List ℕ) (items : List Src) (i left : ℕ) (x d : Src) → i < length items → x ≡ get_or items i d
-    → spec.index_of (items_in bytes (drop i items)) left
-    ≡ (if gives_node_item (item_of bytes x) then spec.child_index left (spec.index_of (items_in bytes (drop (i + 1) items)) (left - 1)) else option_map suc (spec.index_of (items_in bytes (drop (i + 1) items)) left))
-found_from bytes items i left x d below is =
-    ap (λ (l : Items). spec.index_of l left) (items_from bytes items i x d below is) ∙ index_of-before (item_of bytes x) (items_in bytes (drop (i + 1) items)) left
-
-abbrev pub found_at : List ℕ → List Src → ℕ → ℕ → Option ℕ
-found_at bytes items i left = spec.index_of (items_in bytes (drop i items)) left
+found_from : (bytes : List ℕ) (left rest : List Src) (x : Src) (wanted : ℕ) → left ≡ x ∷ rest
+    → spec.index_of (items_in bytes left) wanted
+    ≡ (if gives_node_item (item_of bytes x) then spec.child_index wanted (spec.index_of (items_in bytes rest) (wanted - 1)) else option_map suc (spec.index_of (items_in bytes rest) wanted))
+found_from bytes left rest x wanted is = ap (λ (l : List Src). spec.index_of (items_in bytes l) wanted) is ∙ index_of-before (item_of bytes x) (items_in bytes rest) wanted
 
 -- where the item gives no node
-pub passed_over : (bytes : List ℕ) (items : List Src) (i left : ℕ) (x d : Src) → i < length items → x ≡ get_or items i d → gives_node_item (item_of bytes x) ≡ false
-    → option_map (λ k. i + k) (found_at bytes items i left) ≡ option_map (λ k. (i + 1) + k) (found_at bytes items (i + 1) left)
-passed_over bytes items i left x d below is none =
+pub left_over : (bytes : List ℕ) (level : Items) (number i : ℕ) (left rest : List Src) (x : Src) (wanted : ℕ) → left ≡ x ∷ rest → IsLeft bytes level number i left wanted → gives_node_item (item_of bytes x) ≡ false
+    → IsLeft bytes level number (i + 1) rest wanted
+left_over bytes level number i left rest x wanted is so_far none =
     let more : suc i ≡ i + 1 = omega arith in
-    let skipped : (if gives_node_item (item_of bytes x) then spec.child_index left (found_at bytes items (i + 1) (left - 1)) else option_map suc (found_at bytes items (i + 1) left)) ≡ option_map suc (found_at bytes items (i + 1) left) = rw none refl in
-    let step : found_at bytes items i left ≡ option_map suc (found_at bytes items (i + 1) left) = found_from bytes items i left x d below is ∙ skipped in
-    rw step (rw (← more) (shifted i (found_at bytes items (suc i) left)))
+    let step : spec.index_of (items_in bytes left) wanted ≡ option_map suc (spec.index_of (items_in bytes rest) wanted) = found_from bytes left rest x wanted is ∙ rw none refl in
+    record {
+      along = so_far.along ∙ rw step (rw (← more) (shifted i (spec.index_of (items_in bytes rest) wanted)));
+      held = next_held bytes level number i left rest x wanted is so_far;
+    }
 
 -- where it gives one that isn't meant
-pub counted_one : (bytes : List ℕ) (items : List Src) (i left : ℕ) (x d : Src) → i < length items → x ≡ get_or items i d → gives_node_item (item_of bytes x) ≡ true → 1 < left
-    → option_map (λ k. i + k) (found_at bytes items i left) ≡ option_map (λ k. (i + 1) + k) (found_at bytes items (i + 1) (left - 1))
-counted_one bytes items i zero x d below is gives more = absurd (omega arith)
-counted_one bytes items i (suc zero) x d below is gives more = absurd (omega arith)
-counted_one bytes items i (suc (suc left)) x d below is gives more =
+pub left_counted : (bytes : List ℕ) (level : Items) (number i : ℕ) (left rest : List Src) (x : Src) (wanted : ℕ) → left ≡ x ∷ rest → IsLeft bytes level number i left wanted → gives_node_item (item_of bytes x) ≡ true → 1 < wanted
+    → IsLeft bytes level number (i + 1) rest (wanted - 1)
+left_counted bytes level number i left rest x zero is so_far gives more = absurd (omega arith)
+left_counted bytes level number i left rest x (suc zero) is so_far gives more = absurd (omega arith)
+left_counted bytes level number i left rest x (suc (suc wanted)) is so_far gives more =
     let next : suc i ≡ i + 1 = omega arith in
-    let less : suc (suc left) - 1 ≡ suc left = omega arith in
-    rw (found_from bytes items i (suc (suc left)) x d below is) (rw gives (rw less (rw (← next) (shifted i (found_at bytes items (suc i) (suc left))))))
+    let less : suc (suc wanted) - 1 ≡ suc wanted = omega arith in
+    record {
+      along = so_far.along ∙ rw (found_from bytes left rest x (suc (suc wanted)) is) (rw gives (rw less (rw (← next) (shifted i (spec.index_of (items_in bytes rest) (suc wanted))))));
+      held = next_held bytes level number i left rest x (suc (suc wanted)) is so_far;
+    }
 
 -- where it is the one that is meant
-pub found_here : (bytes : List ℕ) (items : List Src) (i left : ℕ) (x d : Src) → i < length items → x ≡ get_or items i d → gives_node_item (item_of bytes x) ≡ true → left ≡ 1
-    → option_map (λ k. i + k) (found_at bytes items i left) ≡ Some i
-found_here bytes items i left x d below is gives one =
-    let same : i + 0 ≡ i = omega arith in
-    rw (found_from bytes items i left x d below is) (rw gives (rw one (ap (λ (n : ℕ). Some n) same)))
+pub left_here : (bytes : List ℕ) (level left rest : List Src) (number i : ℕ) (x : Src) (kids : List Src) (wanted : ℕ) → left ≡ x ∷ rest → IsLeft bytes (items_in bytes level) number i left wanted → gives_node_item (item_of bytes x) ≡ true → wanted ≡ 1 → kids ≡ kids_of x
+    → IsChild bytes level number i kids
+left_here bytes level left rest number i x kids wanted is so_far gives one same =
+    let at : i + 0 ≡ i = omega arith in
+    record {
+      found = so_far.along ∙ rw (found_from bytes left rest x wanted is) (rw gives (rw one (ap (λ (n : ℕ). Some n) at)));
+      holds = ap (λ (n : ℕ). spec.content_of (items_in bytes level) n) (sym at) ∙ so_far.held 0 ∙ ap (λ (l : List Src). spec.content_of (items_in bytes l) zero) is ∙ holds bytes x (items_in bytes rest) ∙ ap (λ (l : List Src). items_in bytes l) (sym same);
+    }
 
 -- no child has the number zero
-pub found_never : (bytes : List ℕ) (items : List Src) (i left : ℕ) (x d : Src) → i < length items → x ≡ get_or items i d → gives_node_item (item_of bytes x) ≡ true → left ≡ 0
-    → option_map (λ k. i + k) (found_at bytes items i left) ≡ None
-found_never bytes items i left x d below is gives zero_is =
-    rw (found_from bytes items i left x d below is) (rw gives (rw zero_is refl))
-
-past_end : (items : List Src) (i : ℕ) → length items ≤ i → drop i items ≡ []
-past_end [] zero past = refl
-past_end [] (suc i) past = refl
-past_end (x ∷ items) zero past = absurd (omega arith)
-past_end (x ∷ items) (suc i) past = past_end items i (omega arith)
+pub left_never : (bytes : List ℕ) (level : Items) (number i : ℕ) (left rest : List Src) (x : Src) (wanted : ℕ) → left ≡ x ∷ rest → IsLeft bytes level number i left wanted → gives_node_item (item_of bytes x) ≡ true → wanted ≡ 0
+    → spec.index_of level number ≡ None
+left_never bytes level number i left rest x wanted is so_far gives none = so_far.along ∙ rw (found_from bytes left rest x wanted is) (rw gives (rw none refl))
 
 -- and none stands behind the last item
-pub found_at_end : (bytes : List ℕ) (items : List Src) (i left : ℕ) → length items ≤ i → option_map (λ k. i + k) (found_at bytes items i left) ≡ None
-found_at_end bytes items i left past = rw (past_end items i past) refl
-
--- what an item of the list holds
-pub content_at : (bytes : List ℕ) (items : List Src) (i : ℕ) (d : Src) → i < length items → spec.content_of (items_in bytes items) i ≡ content (item_of bytes (get_or items i d))
-content_at bytes [] i d below = absurd (omega arith)
-content_at bytes (x ∷ items) zero d below = first (item_of bytes x) (items_in bytes items)
-  where
-    first : (item : Item) (rest : Items) → spec.content_of (before item rest) zero ≡ content item
-    first (element_item open_tag kids close) rest = refl
-    first (leaf_item kind text) rest = refl
-content_at bytes (x ∷ items) (suc i) d below = behind (item_of bytes x) (items_in bytes items) i ∙ content_at bytes items i d (omega arith)
-  where
-    behind : (item : Item) (rest : Items) (i : ℕ) → spec.content_of (before item rest) (suc i) ≡ spec.content_of rest i
-    behind (element_item open_tag kids close) rest i = refl
-    behind (leaf_item kind text) rest i = refl
+pub left_ends : (bytes : List ℕ) (level : Items) (number i : ℕ) (left : List Src) (wanted : ℕ) → left ≡ [] → IsLeft bytes level number i left wanted → spec.index_of level number ≡ None
+left_ends bytes level number i left wanted none so_far = so_far.along ∙ rw none refl
 
 pub item_count-items : (bytes : List ℕ) (items : List Src) → item_count (items_in bytes items) ≡ length items
 item_count-items bytes [] = refl
@@ -108,25 +120,20 @@ narrow_content most (element open_tag kids close rest) zero are = (are.0, are.1)
 narrow_content most (element open_tag kids close rest) (suc i) are = narrow_content most rest i are.2
 
 -- what an item holds is as narrow as the list in which it stands
-pub narrow_next : (most : ℕ) (bytes : List ℕ) (level next : List Src) (index : ℕ) (x d : Src) → IsNarrow most (items_in bytes level) → index < length level → x ≡ get_or level index d
-    → items_in bytes next ≡ content (item_of bytes x) → IsNarrow most (items_in bytes next)
-narrow_next most bytes level next index x d narrow inside item holds =
-    let same : spec.content_of (items_in bytes level) index ≡ items_in bytes next = content_at bytes level index d inside ∙ ap (λ (y : Src). content (item_of bytes y)) (sym item) ∙ sym holds in
-    subst (λ (l : Items). IsNarrow most l) same (narrow_content most (items_in bytes level) index narrow.1)
+pub narrow_next : (most : ℕ) (bytes : List ℕ) (level next : List Src) (number index : ℕ) → IsNarrow most (items_in bytes level) → IsChild bytes level number index next → IsNarrow most (items_in bytes next)
+narrow_next most bytes level next number index narrow child = subst (λ (l : Items). IsNarrow most l) child.holds (narrow_content most (items_in bytes level) index narrow.1)
 
 mapped : (path : List ℕ) (index : ℕ) (found : Option (List ℕ)) → option_map (λ more. path ++ more) (option_map (λ more. index ∷ more) found) ≡ option_map (λ more. (path ++ index ∷ []) ++ more) found
 mapped path index None = refl
 mapped path index (Some more) = ap (λ (l : List ℕ). Some l) (sym (append_assoc path (index ∷ []) more))
 
 -- a number that is found leads on
-pub goes_along : (bytes : List ℕ) (level next : List Src) (place path : List ℕ) (k number index : ℕ) (x d : Src) → k < length place → number ≡ get_or place k 0 → index < length level
-    → spec.index_of (items_in bytes level) number ≡ Some index → x ≡ get_or level index d → items_in bytes next ≡ content (item_of bytes x)
+pub goes_along : (bytes : List ℕ) (level next : List Src) (place path : List ℕ) (k number index : ℕ) → k < length place → number ≡ get_or place k 0 → IsChild bytes level number index next
     → option_map (λ more. path ++ more) (spec.path_along (items_in bytes level) (drop k place)) ≡ option_map (λ more. (path ++ index ∷ []) ++ more) (spec.path_along (items_in bytes next) (drop (k + 1) place))
-goes_along bytes level next place path k number index x d below is inside found item holds =
+goes_along bytes level next place path k number index below is child =
     let more : suc k ≡ k + 1 = omega arith in
     let rest : drop k place ≡ number ∷ drop (k + 1) place = drop-cons place k 0 below ∙ rw more (ap (λ (y : ℕ). y ∷ drop (k + 1) place) (sym is)) in
-    let inner : spec.content_of (items_in bytes level) index ≡ items_in bytes next = content_at bytes level index d inside ∙ ap (λ (y : Src). content (item_of bytes y)) (sym item) ∙ sym holds in
-    rw rest (rw found (rw inner (mapped path index (spec.path_along (items_in bytes next) (drop (k + 1) place)))))
+    rw rest (rw child.found (rw child.holds (mapped path index (spec.path_along (items_in bytes next) (drop (k + 1) place)))))
 
 -- one that isn't leads nowhere
 pub goes_nowhere : (bytes : List ℕ) (level : List Src) (place path : List ℕ) (k number : ℕ) → k < length place → number ≡ get_or place k 0 → spec.index_of (items_in bytes level) number ≡ None

@@ -9,7 +9,8 @@
 --   IsRefusal     why an edit of items, and IsRefusedIn why one of bytes, is refused
 --   IsEditOf      the bytes of the root with the edit
 --   IsEdited      the session afterwards
-use Rattle.std.specs.Prelude.{◌≡◌, ◌⊎◌, ◌<◌, ◌≤◌, ℕ, List, length, true, false, Some, None}
+--   CountsBytes   how many steps an edit takes, after this answer
+use Rattle.std.specs.Prelude.{◌≡◌, ◌⊎◌, ◌<◌, ◌≤◌, ◌+◌, ℕ, List, length, true, false, Some, None, Result, Ok, Err}
 use Rattle.std.specs.List.{list_all}
 use Rattle.xt_spec.specs.Limit.{most_file_bytes}
 use Rattle.xt_spec.specs.Char.{is_char}
@@ -93,3 +94,10 @@ pub record IsEdited (edit : Edit) (old new : Kept) : Type 0 where
   pub items : Items
   pub opens : Opens old.root old.bytes items
   pub edited : IsEditOf old.root items edit new.bytes
+
+-- One step a byte of the root with the edit, and none for an edit that is refused. Where memory was wanting either none was
+-- counted, or those of an edit that no test refuses.
+abbrev pub CountsBytes : {A : Type 0} → Edit → Kept → Kept → Result A EditFault → ℕ → ℕ → Type 0
+CountsBytes edit old new (Ok made) earlier now = now ≡ earlier + length new.bytes
+CountsBytes edit old new (Err (Refused refusal)) earlier now = now ≡ earlier
+CountsBytes edit old new (Err NoMemory) earlier now = (now ≡ earlier) ⊎ ((made : Kept) × IsEdited edit old made × (now ≡ earlier + length made.bytes))

@@ -1,22 +1,26 @@
--- A syntax item by itself: whether it gives a node, and what it holds. How many items stand side by side. Of this project,
+-- A syntax item by itself: whether it gives a node. How many items stand side by side. Of this project,
 -- over the trees of `xt_spec`.
 --
 --   gives_node_item  whether the item gives a node
---   content          what it holds
+--   IsChild          the item of a list that gives the node of a number, and what it holds
 --   item_count       how many items stand side by side
 --   AreNarrowWithin  no more than so many in each element among the items
 --   IsNarrow         .. and among the items themselves
-use Rattle.std.specs.Prelude.{ℕ, ◌≤◌, suc, Bool, true}
+use Rattle.std.specs.Prelude.{◌≡◌, ℕ, ◌≤◌, suc, List, Bool, true, Some}
 use Rattle.xt_spec.specs.Tree.{Item, element_item, leaf_item, Items, nil, element, leaf}
 use Rattle.bk_spec.specs.NodePaths.{gives_node}
+use Rattle.ed_spec.specs.Place.{index_of, content_of}
+use Rattle.xt_tree.specs.declared.source.Src.{Src}
+use Rattle.xt_tree.specs.Meaning.{items_in}
 
 abbrev pub gives_node_item : Item → Bool
 gives_node_item (element_item open_tag kids close) = true
 gives_node_item (leaf_item kind text) = gives_node kind text
 
-abbrev pub content : Item → Items
-content (element_item open_tag kids close) = kids
-content (leaf_item kind text) = nil
+-- the item of this index gives the node of this number, and holds these items
+pub record IsChild (bytes : List ℕ) (level : List Src) (number index : ℕ) (held : List Src) : Type 0 where
+  pub found : index_of (items_in bytes level) number ≡ Some index
+  pub holds : content_of (items_in bytes level) index ≡ items_in bytes held
 
 abbrev pub item_count : Items → ℕ
 item_count nil = 0

@@ -9,12 +9,13 @@ ghost use Rattle.xt_spec.specs.Text.{IsTextItem, HasTextValue};
 ghost use Rattle.xt_spec.specs.Paths.{item_at};
 ghost use Rattle.ed_spec.specs.Edit.{IsAt, is_text, range_replaced, text_edit};
 ghost use Rattle.xt_tree.specs.Meaning.{at_span, item_of, items_in};
+ghost use Rattle.xt_tree.specs.Items.{item_in};
 ghost use Rattle.xt_tree.specs.Places.{marks_of, AreInPlace};
 ghost use Rattle.xt_tree.specs.Patches.{patched};
 ghost use Rattle.ed_session.specs.Items.{IsNarrow};
 ghost use Rattle.ed_session.specs.Kept.{Opens};
 ghost use Rattle.ed_edit.specs.View.{edit_of};
-ghost use Rattle.ed_session.specs.Edits.{IsNoTextAt, IsNoText, IsNoValue, IsTooLarge, IsNewText, IsRefusal, IsEditOf, IsRefusedIn, IsEdited};
+ghost use Rattle.ed_session.specs.Edits.{IsNoTextAt, IsNoText, IsNoValue, IsTooLarge, IsNewText, IsRefusal, IsEditOf, IsRefusedIn, IsEdited, CountsBytes};
 
 use crate::kept::Session;
 use crate::opening::MOST_BYTES;
@@ -23,13 +24,12 @@ use crate::range::replace_range;
 use crate::refusal::{EditFault, Refusal};
 use ed_edit::Edit;
 use ed_text::text_patch;
-use sqlite_items::Items;
 use std::alloc::{AllocError, Global};
 use std::mem;
 use std::sync::ledger::Ledger;
 use xt_lex::{Span, Steps, is_char};
 use xt_read::{Unread, read_document};
-use xt_tree::{Patch, Src, item_at, splice};
+use xt_tree::{Item, Patch, Row, Tape, item_at, splice};
 use xt_value::text_value;
 
 /// A text item: its path and its span.
@@ -40,22 +40,22 @@ struct TextAt {
 }
 
 /// The span of a text item.
-fn text_span(item: &Src) -> Option<Span>
-    ensures value { (bytes : List ℕ) → MatchOption result (is_text (item_of bytes item.now) ≡ false) (λ span. item_of bytes item.now ≡ leaf_item text_item (at_span bytes span)) }
+fn text_span(item: &Item<'_>) -> Option<Span>
+    ensures value { (bytes : List ℕ) → MatchOption result (is_text (item_of bytes (item_in item.now)) ≡ false) (λ span. item_of bytes (item_in item.now) ≡ leaf_item text_item (at_span bytes span)) }
 {
     match item {
-        Src::Text(span) => Some(*span),
+        Item::Text(span) => Some(*span),
         _ => None,
     }
 }
 
 /// The span of the text item at a path.
-fn text_span_at(items: &[Src], path: &[u32]) -> Result<Span, Refusal>
+fn text_span_at(items: &Row<'_>, path: &[u32]) -> Result<Span, Refusal>
     ensures value { IfOk result (λ span. (bytes : List ℕ) → item_at (items_in bytes items.now) path.now ≡ Some (leaf_item text_item (at_span bytes span))) }
     ensures fault { IfErr result (λ e. (bytes : List ℕ) → IsNoTextAt (items_in bytes items.now) path.now e) }
 {
     match item_at(items, path) {
-        Some(item) => match text_span(item) {
+        Some(item) => match text_span(&item) {
             Some(span) => Ok(span),
             None => Err(Refusal::WrongKind),
         },
@@ -64,7 +64,7 @@ fn text_span_at(items: &[Src], path: &[u32]) -> Result<Span, Refusal>
 }
 
 /// The text item at a place.
-fn find_text(alloc: Global, bytes: &[u8], items: &[Src], place: &[u32]) -> Result<TextAt, EditFault>
+fn find_text(alloc: Global, bytes: &[u8], items: &Row<'_>, place: &[u32]) -> Result<TextAt, EditFault>
     requires few { IsNarrow most_file_bytes (items_in bytes.now items.now) }
     ensures value { IfOk result (λ t. IsAt (items_in bytes.now items.now) place.now t.path.items (leaf_item text_item (at_span bytes.now t.span))) }
     ensures fault { IfErr result (IsNoText (items_in bytes.now items.now) place.now) }
@@ -133,7 +133,7 @@ fn read_again<L: Ledger>(
     alloc: Global,
     bytes: &[u8],
     steps: &mut Steps<L>,
-) -> Result<Items<Src>, AllocError>
+) -> Result<Tape, AllocError>
     requires fits { length bytes.now ≤ most_file_bytes }
     requires opens { (root : List ℕ) × (items : SyntaxItems) × Opens root bytes.now items }
     ensures value { IfOk result (λ is. (root : List ℕ) (items : SyntaxItems) → Opens root bytes.now items → Opens root bytes.now (items_in bytes.now is)) }
@@ -141,7 +141,7 @@ fn read_again<L: Ledger>(
     ensures count { steps.new ≡ steps.old + length bytes.now }
 {
     match read_document(alloc, bytes, steps) {
-        Ok(items) => Ok(items),
+        Ok(tape) => Ok(tape),
         Err(unread) => match unread {
             Unread::NoMemory => Err(AllocError),
             _ => unreachable!(),
@@ -160,7 +160,7 @@ struct NewText {
 fn new_text(
     alloc: Global,
     bytes: &[u8],
-    items: &[Src],
+    items: &Row<'_>,
     at: &[u32],
     from: u32,
     to: u32,
@@ -188,7 +188,7 @@ fn new_text(
 fn edited(
     alloc: Global,
     bytes: &[u8],
-    items: &[Src],
+    items: &Row<'_>,
     at: &[u32],
     from: u32,
     to: u32,
@@ -216,7 +216,7 @@ fn edited(
 }
 
 /// The bytes of a document with an edit.
-fn edited_by(alloc: Global, bytes: &[u8], items: &[Src], edit: &Edit) -> Result<Vec<u8>, EditFault>
+fn edited_by(alloc: Global, bytes: &[u8], items: &Row<'_>, edit: &Edit) -> Result<Vec<u8>, EditFault>
     requires current { (root : List ℕ) × Opens root bytes.now (items_in bytes.now items.now) }
     requires place { AreInPlace bytes.now 0 (marks_of items.now) (length bytes.now) }
     ensures value { IfOk result (λ out. (root : List ℕ) → Opens root bytes.now (items_in bytes.now items.now) → IsEditOf root (items_in bytes.now items.now) (edit_of edit.now) out.items) }
@@ -243,7 +243,7 @@ fn edited_by(alloc: Global, bytes: &[u8], items: &[Src], edit: &Edit) -> Result<
 
 impl Session {
     /// The root has these bytes, which read so; what is saved stays. Its nodes aren't made.
-    fn replace(&mut self, bytes: Vec<u8>, items: Items<Src>)
+    fn replace(&mut self, bytes: Vec<u8>, items: Tape)
         requires current { Opens self.old.root bytes.items (items_in bytes.items items) }
         requires place { AreInPlace bytes.items 0 (marks_of items) (length bytes.items) }
         ensures value { self.new ≡ record { root = self.old.root; bytes = bytes.items; saved = self.old.saved } }
@@ -258,18 +258,19 @@ impl Session {
 
     /// Makes an edit, where no test refuses it.
     ///
-    /// After an error the session is as before. A step is counted for each byte that is read again.
+    /// After an error the session is as before. A step is counted for each byte that is read again; none for an edit that is
+    /// refused.
     pub fn edit<L: Ledger>(&mut self, edit: &Edit, steps: &mut Steps<L>) -> Result<(), EditFault>
         ensures value { OnOk result (IsEdited (edit_of edit.now) self.old self.new) }
         ensures fault { IfErr result (IsRefusedIn self.old.root self.old.bytes (edit_of edit.now)) }
         ensures same { OnErr result (self.new ≡ self.old) }
         ensures count { (steps.old ≤ steps.new) × (steps.new ≤ steps.old + most_file_bytes) }
-        ensures exact { OnOk result (steps.new ≡ steps.old + length self.new.bytes) }
+        ensures exact { CountsBytes (edit_of edit.now) self.old self.new result steps.old steps.new }
     {
         let alloc = *self.bytes.allocator();
-        let bytes = edited_by(alloc, self.bytes.as_slice(), self.items.as_slice(), edit)?;
-        let items = read_again(alloc, bytes.as_slice(), steps)?;
-        self.replace(bytes, items);
+        let bytes = edited_by(alloc, self.bytes.as_slice(), &self.items.items(), edit)?;
+        let tape = read_again(alloc, bytes.as_slice(), steps)?;
+        self.replace(bytes, tape);
         Ok(())
     }
 }

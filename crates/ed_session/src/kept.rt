@@ -16,7 +16,7 @@ use sqlite_items::Items;
 use std::alloc::{AllocError, Global};
 use std::marker::Model;
 use xt_lex::text_of;
-use xt_tree::Src;
+use xt_tree::{Row, Tape};
 
 /// The root of a book that is open: its bytes as edited, the items that they read as, and its bytes as last saved.
 ///
@@ -25,7 +25,7 @@ use xt_tree::Src;
 pub struct Session {
     pub(crate) root: Name,
     pub(crate) bytes: Vec<u8>,
-    pub(crate) items: Items<Src>,
+    pub(crate) items: Tape,
     /// The nodes that the items give, where no edit came since they were made.
     pub(crate) nodes: Option<Items<Node>>,
     /// The bytes last saved, where an edit came since.
@@ -47,7 +47,7 @@ fn nodes_again(
     alloc: Global,
     root: &Name,
     bytes: &[u8],
-    items: &[Src],
+    items: &Row<'_>,
 ) -> Result<Items<Node>, AllocError>
     requires opens { Opens root.now bytes.now (items_in bytes.now items.now) }
     requires place { AreInPlace bytes.now 0 (marks_of items.now) (length bytes.now) }
@@ -81,11 +81,11 @@ impl Session {
     }
 
     /// The items that they read as.
-    pub fn items(&self) -> &[Src]
-        ensures opens { Opens self.now.root self.now.bytes (items_in self.now.bytes result.now) }
-        ensures place { AreInPlace self.now.bytes 0 (marks_of result.now) (length self.now.bytes) }
+    pub fn items(&self) -> Row<'_>
+        ensures opens { Opens self.now.root self.now.bytes (items_in self.now.bytes result) }
+        ensures place { AreInPlace self.now.bytes 0 (marks_of result) (length self.now.bytes) }
     {
-        self.items.as_slice()
+        self.items.items()
     }
 
     /// The items and the nodes of the bytes as edited, each node with the path of its item, and through no reference. The
@@ -99,15 +99,15 @@ impl Session {
         let Session {
             root,
             bytes,
-            items,
+            items: tape,
             nodes,
             saved: _,
         } = self;
         match nodes {
-            Some(nodes) => Ok(Opened { items, nodes }),
+            Some(nodes) => Ok(Opened { items: tape, nodes }),
             None => {
-                let nodes = nodes_again(alloc, &root, bytes.as_slice(), items.as_slice())?;
-                Ok(Opened { items, nodes })
+                let nodes = nodes_again(alloc, &root, bytes.as_slice(), &tape.items())?;
+                Ok(Opened { items: tape, nodes })
             }
         }
     }

@@ -5,12 +5,13 @@ ghost use Rattle.xt_spec.specs.Limit.{most_file_bytes};
 ghost use Rattle.xt_spec.specs.Text as of_text;
 ghost use Rattle.ed_spec.specs.Place as spec;
 ghost use Rattle.xt_tree.specs.Meaning.{at_span, item_of, items_in};
-ghost use Rattle.ed_session.specs.Items.{gives_node_item, content, IsNarrow};
+ghost use Rattle.xt_tree.specs.Items.{item_in};
+ghost use Rattle.ed_session.specs.Items.{gives_node_item, IsChild, IsNarrow};
 
 use crate::opening::MOST_BYTES;
 use std::alloc::{AllocError, Global};
 use xt_lex::Span;
-use xt_tree::Src;
+use xt_tree::{Item, Row};
 
 /// A CDATA section that holds nothing.
 const EMPTY_SECTION: &[u8] = b"<![CDATA[]]>";
@@ -36,51 +37,57 @@ fn is_void(text: &[u8]) -> bool
 }
 
 /// Whether an item gives a node of its own.
-fn gives_node(bytes: &[u8], item: &Src) -> bool
-    ensures value { result ≡ gives_node_item (item_of bytes.now item.now) }
+fn gives_node(bytes: &[u8], item: &Item<'_>) -> bool
+    ensures value { result ≡ gives_node_item (item_of bytes.now (item_in item.now)) }
 {
     match item {
-        Src::Elem { .. } => true,
-        Src::Text(span) => !is_void(bytes_at(bytes, *span)),
-        Src::Ref(_) => false,
-        Src::Comment(_) => true,
-        Src::Pi(_) => true,
-        Src::Gap(_) => false,
+        Item::Elem { .. } => true,
+        Item::Text(span) => !is_void(bytes_at(bytes, *span)),
+        Item::Ref(_) => false,
+        Item::Comment(_) => true,
+        Item::Pi(_) => true,
+        Item::Gap(_) => false,
     }
 }
 
-/// The index of the item that gives the node of this number, from 1.
-fn index_of(bytes: &[u8], items: &[Src], number: u32) -> Option<usize>
-    ensures value { spec.index_of (items_in bytes.now items.now) number ≡ result }
-    ensures fits { MatchOption result (Unit {0}) (λ index. index < length items.now) }
+/// An item of a row that gives a node: its index from 0, and what it holds.
+#[derive(Drop)]
+struct Child<'a> {
+    index: u32,
+    items: Row<'a>,
+}
+
+/// The item of a row that gives the node of this number, from 1, where there is one.
+fn find_child<'a>(bytes: &[u8], level: &Row<'a>, number: u32) -> Option<Child<'a>>
+    requires few { length level.now ≤ most_file_bytes }
+    ensures value { MatchOption result (spec.index_of (items_in bytes.now level.now) number ≡ None) (λ child. IsChild bytes.now level.now number child.index child.items) }
 {
-    let mut left = number;
-    for (index, item) in items.iter().enumerate() {
-        if gives_node(bytes, item) {
-            if left <= 1 {
-                return if left == 1 { Some(index) } else { None };
+    let mut wanted = number;
+    let mut index = 0_u32;
+    let mut left = level.again();
+    while let Some((item, rest)) = left.split() {
+        if gives_node(bytes, &item) {
+            if wanted <= 1 {
+                return if wanted == 1 {
+                    let items = item.kids();
+                    Some(Child { index, items })
+                } else {
+                    None
+                };
             }
-            left -= 1;
+            wanted -= 1;
         }
+        index += 1;
+        left = rest;
     }
     None
-}
-
-/// What an item holds.
-fn content(item: &Src) -> &[Src]
-    ensures value { (bytes : List ℕ) → items_in bytes result.now ≡ content (item_of bytes item.now) }
-{
-    match item {
-        Src::Elem { kids, .. } => kids.as_slice(),
-        _ => &[],
-    }
 }
 
 /// The path of the item that gives the node at a place, where there is one.
 pub(crate) fn path_of(
     alloc: Global,
     bytes: &[u8],
-    items: &[Src],
+    items: &Row<'_>,
     place: &[u32],
 ) -> Result<Option<Vec<u32>>, AllocError>
     requires few { IsNarrow most_file_bytes (items_in bytes.now items.now) }
@@ -90,12 +97,12 @@ pub(crate) fn path_of(
         return Ok(None);
     }
     let mut path = Vec::new(alloc);
-    let mut level = items;
+    let mut level = items.again();
     for number in place {
-        match index_of(bytes, level, *number) {
-            Some(index) => {
-                path.push(index as u32)?;
-                level = content(&level[index]);
+        match find_child(bytes, &level, *number) {
+            Some(child) => {
+                path.push(child.index)?;
+                level = child.items;
             }
             None => return Ok(None),
         }

@@ -8,7 +8,7 @@ use Rattle.xt_spec.specs.Tree.{Items, nil, leaf, leaf_item, text_item, source_te
 use Rattle.xt_spec.specs.Text.{HasTextValue}
 use Rattle.xt_spec.specs.Content.{Content, HasContent}
 use Rattle.xt_spec.specs.Reading.{document, IsOrdered, IsReading}
-use Rattle.xt_read.proofs.Theorems.{one_tree}
+use Rattle.xt_read.proofs.Theorems.{one_tree, text_item_utf8, text_item_some}
 use Rattle.xt_spec.specs.Escape.{escape_text}
 use Rattle.xt_spec.specs.Paths.{item_in, item_at, replaced_in}
 use Rattle.ed_spec.specs.TextEdit.{text_written, text_as_it_is, text_items, text_edited}
@@ -19,7 +19,7 @@ use Rattle.ed_text.proofs.TextEditLemmas.{one_text, IsNew, document_kept, docume
 use Rattle.ed_text.specs.EditedContent.{content_edited}
 use Rattle.ed_text.proofs.ContentLemmas.{edited_content}
 use Rattle.ed_text.proofs.StandingLemmas.{text_found}
-use Rattle.ed_text.proofs.Utf8Lemmas.{text_item_utf8, text_item_some, text_for_text}
+use Rattle.ed_text.proofs.Utf8Lemmas.{text_for_text}
 
 -- ---- the bytes that stand for a value
 

@@ -13,6 +13,5 @@ pub use Rattle.ed_text.proofs.ContentLemmas.{edited_content}
 pub use Rattle.ed_text.proofs.ReadingLemmas.{still_reads, edited_reads, has_new_value}
 pub use Rattle.ed_text.proofs.TextEditLemmas.{document_text_at, same_replaced, new_at, no_mark}
 pub use Rattle.ed_text.proofs.TextFileLemmas.{edited_reads_as_text}
-pub use Rattle.ed_text.proofs.Utf8Lemmas.{text_for_text, text_item_utf8, text_item_some}
+pub use Rattle.ed_text.proofs.Utf8Lemmas.{text_for_text}
 pub use Rattle.ed_text.proofs.StandingLemmas.{text_found}
-pub use Rattle.ed_text.proofs.TextPlaceLemmas.{text_file}

@@ -11,6 +11,7 @@ ghost use Rattle.xt_spec.specs.Content.{Content, HasContent};
 ghost use Rattle.xt_spec.specs.Paths.{item_at};
 ghost use Rattle.ed_spec.specs.TextEdit.{text_items, text_edited};
 ghost use Rattle.xt_tree.specs.Meaning.{item_of, items_in};
+ghost use Rattle.xt_tree.specs.Items.{item_in};
 ghost use Rattle.xt_tree.specs.Patches.{patched};
 ghost use Rattle.xt_tree.specs.Places.{marks_of, AreInPlace};
 ghost use Rattle.xt_tree.specs.Spans.{Stands};
@@ -20,27 +21,27 @@ ghost use Rattle.ed_text.specs.EditedContent.{content_edited};
 
 use std::alloc::{AllocError, Global};
 use xt_escape::escape_text;
-use xt_tree::{Patch, Src, item_at, span_at};
+use xt_tree::{Item, Patch, Row, item_at, span_at};
 
-fn is_text(item: &Src) -> bool
-    ensures value { (bytes : List ℕ) → IsTrue result ↔ IsText (item_of bytes item.now) }
+fn is_text(item: &Item<'_>) -> bool
+    ensures value { (bytes : List ℕ) → IsTrue result ↔ IsText (item_of bytes (item_in item.now)) }
 {
     match item {
-        Src::Text(_) => true,
-        Src::Elem { .. } => false,
-        Src::Ref(_) => false,
-        Src::Comment(_) => false,
-        Src::Pi(_) => false,
-        Src::Gap(_) => false,
+        Item::Text(_) => true,
+        Item::Elem { .. } => false,
+        Item::Ref(_) => false,
+        Item::Comment(_) => false,
+        Item::Pi(_) => false,
+        Item::Gap(_) => false,
     }
 }
 
 /// Whether a text item is at the path.
-pub fn is_text_at(items: &[Src], path: &[u32]) -> bool
+pub fn is_text_at(items: &Row<'_>, path: &[u32]) -> bool
     ensures value { (bytes : List ℕ) → IsTrue result ↔ IsTextAt (items_in bytes items.now) path.now }
 {
     match item_at(items, path) {
-        Some(item) => is_text(item),
+        Some(item) => is_text(&item),
         None => false,
     }
 }
@@ -64,7 +65,7 @@ fn text_bytes(alloc: Global, value: &str, plain: bool) -> Result<Vec<u8>, AllocE
 pub fn text_patch(
     alloc: Global,
     file: &[u8],
-    items: &[Src],
+    items: &Row<'_>,
     path: &[u32],
     value: &str,
     plain: bool,

@@ -12,7 +12,8 @@ use Rattle.bk_spec.specs.Fault.{Fault}
 use Rattle.bk_spec.specs.DocumentNodes.{Context, Element, and_then, element_of, with_room, nodes_of}
 use Rattle.bk_info.specs.declared.node.Node.{Node}
 use Rattle.bk_info.specs.Nodes.{node_in, nodes_in}
-use Rattle.ent_doc.specs.Steps.{Fails, prepended, Gives, GivesFault, attribute_at, AreTagsInPlace}
+use Rattle.xt_read.specs.ContentTest.{ArePlaced}
+use Rattle.ent_doc.specs.Steps.{Fails, prepended, Gives, GivesFault, attribute_at}
 use Rattle.ent_doc.proofs.FaultLemmas.{fails_then, fails_as}
 use Rattle.ent_doc.proofs.LeafLemmas.{one_prepended}
 use Rattle.ent_doc.proofs.PlaceLemmas.{tag_at}
@@ -28,11 +29,11 @@ abbrev pub AreRead : List ℕ → List AttrSrc → List NamedValue → Type 0
 AreRead bytes sources values = (others : List NamedValue) → HaveValues (map (attribute_at bytes) sources) others → others ≡ values
 
 -- the content of an element whose tag was read
-read_content : (bytes : List ℕ) (tag : TagSrc) (kids rest : Items) (close : Option (List ℕ)) (qname : List ℕ) (sources : List AttrSrc) (values : List NamedValue) (content : Content) → AreTagsInPlace bytes (tag_mark tag ∷ [])
+read_content : (bytes : List ℕ) (tag : TagSrc) (kids rest : Items) (close : Option (List ℕ)) (qname : List ℕ) (sources : List AttrSrc) (values : List NamedValue) (content : Content) → ArePlaced bytes (tag_mark tag ∷ [])
     → qname ≡ at_span bytes tag.name → sources ≡ tag.attrs → AreRead bytes sources values → HasContent (element (at_span bytes tag.span) kids close rest) content
     → (inner others : Content) × HasContent kids inner × HasContent rest others × (content ≡ element_content qname values inner others)
 read_content bytes tag kids rest close qname sources values content stands name attrs read (t, found, inner, others, is_tag, spelled, have, has_inner, has_others, is) =
-    let parts = tag_at bytes stands.0.0 tag close t found stands.0.1 is_tag spelled have in
+    let parts = tag_at bytes stands.from tag close t found stands.placed.0 is_tag spelled have in
     let same : found ≡ values = read found (subst (λ (l : List AttrSrc). HaveValues (map (attribute_at bytes) l) found) (sym attrs) parts.1) in
     (inner, others, has_inner, has_others, is ∙ ap (λ (q : List ℕ). element_content q found inner others) (parts.0 ∙ sym name) ∙ ap (λ (v : List NamedValue). element_content qname v inner others) same)
 
@@ -46,7 +47,7 @@ own_read file context n qname values inner others content e is own =
     ap (nodes_of file context n) is ∙ ap (λ (r : Result Element Fault). and_then (behind_own file context n inner others) r) own
 
 pub element_gives : (bytes file : List ℕ) (context : Context) (tag : TagSrc) (kids rest : Items) (close : Option (List ℕ)) (n k m : ℕ) (qname : List ℕ) (sources : List AttrSrc) (values : List NamedValue) (e : Element) (inner : List Node) (node : Node)
-    → AreTagsInPlace bytes (tag_mark tag ∷ []) → qname ≡ at_span bytes tag.name → sources ≡ tag.attrs → AreRead bytes sources values
+    → ArePlaced bytes (tag_mark tag ∷ []) → qname ≡ at_span bytes tag.name → sources ≡ tag.attrs → AreRead bytes sources values
     → element_of file context qname values ≡ Ok e → ((others : Result Nodes Fault) → with_room file n others ≡ others) → k ≡ suc n → Gives file e.context kids nil k m inner → m ≡ k + node_count (nodes_in inner)
     → ((others : Nodes) → node_in node others ≡ element_node e.head (nodes_in inner) others)
     → Gives file context (element (at_span bytes tag.span) kids close rest) rest n m (node ∷ [])
@@ -63,21 +64,21 @@ element_gives bytes file context tag kids rest close n k m qname sources values 
 
 -- .. its own fault, the fault that there is no room, and one of what it holds
 pub own_fails : (bytes file : List ℕ) (context : Context) (tag : TagSrc) (kids rest : Items) (close : Option (List ℕ)) (n : ℕ) (qname : List ℕ) (sources : List AttrSrc) (values : List NamedValue) (fault : Option Fault)
-    → AreTagsInPlace bytes (tag_mark tag ∷ []) → qname ≡ at_span bytes tag.name → sources ≡ tag.attrs → AreRead bytes sources values
+    → ArePlaced bytes (tag_mark tag ∷ []) → qname ≡ at_span bytes tag.name → sources ≡ tag.attrs → AreRead bytes sources values
     → Fails (element_of file context qname values) fault → GivesFault file context (element (at_span bytes tag.span) kids close rest) n fault
 own_fails bytes file context tag kids rest close n qname sources values fault stands name attrs read fails content has =
     let (inside, others, has_inside, has_others, is) = read_content bytes tag kids rest close qname sources values content stands name attrs read has in
     fails_as _ _ fault (ap (nodes_of file context n) is) (fails_then (behind_own file context n inside others) (element_of file context qname values) fault fails)
 
 pub room_fails : (bytes file : List ℕ) (context : Context) (tag : TagSrc) (kids rest : Items) (close : Option (List ℕ)) (n : ℕ) (qname : List ℕ) (sources : List AttrSrc) (values : List NamedValue) (e : Element) (fault : Option Fault)
-    → AreTagsInPlace bytes (tag_mark tag ∷ []) → qname ≡ at_span bytes tag.name → sources ≡ tag.attrs → AreRead bytes sources values
+    → ArePlaced bytes (tag_mark tag ∷ []) → qname ≡ at_span bytes tag.name → sources ≡ tag.attrs → AreRead bytes sources values
     → element_of file context qname values ≡ Ok e → ((others : Result Nodes Fault) → Fails (with_room file n others) fault) → GivesFault file context (element (at_span bytes tag.span) kids close rest) n fault
 room_fails bytes file context tag kids rest close n qname sources values e fault stands name attrs read own fails content has =
     let (inside, others, has_inside, has_others, is) = read_content bytes tag kids rest close qname sources values content stands name attrs read has in
     fails_as _ _ fault (own_read file context n qname values inside others content e is own) (fails _)
 
 pub kids_fail : (bytes file : List ℕ) (context : Context) (tag : TagSrc) (kids rest : Items) (close : Option (List ℕ)) (n k : ℕ) (qname : List ℕ) (sources : List AttrSrc) (values : List NamedValue) (e : Element) (fault : Option Fault)
-    → AreTagsInPlace bytes (tag_mark tag ∷ []) → qname ≡ at_span bytes tag.name → sources ≡ tag.attrs → AreRead bytes sources values
+    → ArePlaced bytes (tag_mark tag ∷ []) → qname ≡ at_span bytes tag.name → sources ≡ tag.attrs → AreRead bytes sources values
     → element_of file context qname values ≡ Ok e → ((others : Result Nodes Fault) → with_room file n others ≡ others) → k ≡ suc n → GivesFault file e.context kids k fault
     → GivesFault file context (element (at_span bytes tag.span) kids close rest) n fault
 kids_fail bytes file context tag kids rest close n k qname sources values e fault stands name attrs read own room first fails content has =

@@ -1,7 +1,8 @@
 -- What a leaf gives, whatever stands behind it.
 use Rattle.std.proofs.lemmas.List.{nil_from_length}
 use Rattle.std.proofs.Common.{length, ◌≡◌, ◌≢◌, ◌∙◌, ℕ, suc, List, [], ◌∷◌, refl, sym, ap, Result, Ok, Err, Option}
-use Rattle.xt_spec.specs.Content.{Content, text_content, pi_content, IsPiOf}
+use Rattle.xt_spec.specs.Content.{Content, text_content, pi_content}
+use Rattle.xt_spec.specs.Markup.{IsPiOf}
 use Rattle.xt_spec.specs.LineEnds.{lines_read}
 use Rattle.xt_spec.specs.Reading.{document}
 use Rattle.xt_spec.specs.Text.{HasTextValue}

@@ -4,6 +4,7 @@ mod LeafLemmas
 mod PlaceLemmas
 mod ElementLemmas
 mod ItemLemmas
+mod CutLemmas
 mod PathLemmas
 mod ViaLemmas
 mod TagLemmas

@@ -1,7 +1,7 @@
 -- A document has one first fault, and none where it opens; it gives one list of nodes.
-use Rattle.std.proofs.Common.{◌≡◌, ◌∙◌, ℕ, List, Option, Some, None, Result, Ok, Err, true, false, refl, sym, ap, subst}
+use Rattle.std.proofs.Common.{◌≡◌, ◌∙◌, ℕ, List, Result, Ok, Err, true, false, refl, sym, ap, subst}
 use Rattle.xt_spec.specs.Tree.{Items}
-use Rattle.xt_spec.specs.Reading.{document, IsReading}
+use Rattle.xt_spec.specs.Reading.{document}
 use Rattle.xt_spec.specs.Content.{Content, HasContent}
 use Rattle.xt_read.proofs.Theorems.{one_tree, no_first_fault, one_first_fault}
 use Rattle.xt_value.proofs.Theorems.{content_unique}

@@ -1,5 +1,5 @@
 -- The paths of the items that give nodes.
-use Rattle.std.proofs.Common.{◌≡◌, ◌≢◌, ◌∙◌, ◌<◌, ◌≤◌, ◌+◌, ℕ, suc, List, [], ◌∷◌, ◌++◌, drop, length, get_or, refl, sym, ap, subst, arith, inl, inr, append_assoc, append-nil, Option, Bool, true, false, not, if◌then◌else◌}
+use Rattle.std.proofs.Common.{◌≡◌, ◌≢◌, ◌∙◌, ◌+◌, ℕ, suc, List, [], ◌∷◌, ◌++◌, refl, sym, ap, subst, arith, inl, inr, append_assoc, append-nil, Option, Bool, true, false, not, if◌then◌else◌}
 use Rattle.std.proofs.lemmas.Bool.{cases_Bool}
 use Rattle.xt_spec.specs.Content.{HasContent}
 use Rattle.xt_spec.specs.Text.{HasTextValue, is_void}
@@ -15,7 +15,6 @@ use Rattle.bk_info.specs.declared.node.Node.TheVariants as code
 use Rattle.bk_info.specs.Paths.{paths_of, paths_in}
 use Rattle.bk_info.proofs.Theorems.{text_paths, comment_paths, pi_paths, paths_in-append}
 use Rattle.ent_doc.specs.Steps.{Gives, HavePaths, HasPaths}
-use Rattle.ent_doc.proofs.ItemLemmas.{next_items, none_left}
 
 -- ---- leaves
 
@@ -76,24 +75,23 @@ none_have_paths bytes outer items nodes empty none content has = rw (empty, none
 pub paths_begin : (items : Items) (outer : List ℕ) (nodes : List Node) → nodes ≡ [] → HasPaths outer 0 items items 0 nodes
 paths_begin items outer nodes none content has = rw none refl
 
-pub paths_step : (bytes file : List ℕ) (context : Context) (items : List Src) (i : ℕ) (x : Src) (n k : ℕ) (nodes more joined : List Node) (outer : List ℕ) → i < length items → x ≡ get_or items i x → joined ≡ nodes ++ more
-    → Gives file context (items_in bytes items) (items_in bytes (drop i items)) n k nodes → HasPaths outer 0 (items_in bytes items) (items_in bytes (drop i items)) i nodes
+pub paths_step : (bytes file : List ℕ) (context : Context) (items left behind : List Src) (i : ℕ) (x : Src) (n k : ℕ) (nodes more joined : List Node) (outer : List ℕ) → left ≡ x ∷ behind → joined ≡ nodes ++ more
+    → Gives file context (items_in bytes items) (items_in bytes left) n k nodes → HasPaths outer 0 (items_in bytes items) (items_in bytes left) i nodes
     → ((rest : Items) → HasPaths outer i (before (item_of bytes x) rest) rest (suc i) more)
-    → HasPaths outer 0 (items_in bytes items) (items_in bytes (drop (i + 1) items)) (i + 1) joined
-paths_step bytes file context items i x n k nodes more joined outer below is same gives so_far next content has =
-    let rest = items_in bytes (drop (i + 1) items) in
-    let first : drop i items ≡ x ∷ drop (i + 1) items = next_items items i x below is in
+    → HasPaths outer 0 (items_in bytes items) (items_in bytes behind) (i + 1) joined
+paths_step bytes file context items left behind i x n k nodes more joined outer is same gives so_far next content has =
+    let rest = items_in bytes behind in
     let (others, has_others, given) = gives content has in
-    let here : HasContent (before (item_of bytes x) rest) others = subst (λ (l : List Src). HasContent (items_in bytes l) others) first has_others in
-    let step : node_paths outer i (items_in bytes (drop i items)) ≡ paths_in more ++ node_paths outer (suc i) rest =
-    ap (λ (l : List Src). node_paths outer i (items_in bytes l)) first ∙ next rest others here in
+    let here : HasContent (before (item_of bytes x) rest) others = subst (λ (l : List Src). HasContent (items_in bytes l) others) is has_others in
+    let step : node_paths outer i (items_in bytes left) ≡ paths_in more ++ node_paths outer (suc i) rest =
+    ap (λ (l : List Src). node_paths outer i (items_in bytes l)) is ∙ next rest others here in
     let number : suc i ≡ i + 1 = omega arith in
     so_far content has ∙ ap (λ (l : List (List ℕ)). paths_in nodes ++ l) (step ∙ ap (λ (j : ℕ). paths_in more ++ node_paths outer j rest) number)
     ∙ sym (append_assoc (paths_in nodes) (paths_in more) (node_paths outer (i + 1) rest))
     ∙ ap (λ (l : List (List ℕ)). l ++ node_paths outer (i + 1) rest) (sym (ap paths_in same ∙ paths_in-append nodes more))
 
-pub paths_end : (bytes : List ℕ) (items : List Src) (i : ℕ) (nodes list : List Node) (outer : List ℕ) → length items ≤ i → list ≡ nodes → HasPaths outer 0 (items_in bytes items) (items_in bytes (drop i items)) i nodes
+pub paths_end : (bytes : List ℕ) (items left : List Src) (i : ℕ) (nodes list : List Node) (outer : List ℕ) → left ≡ [] → list ≡ nodes → HasPaths outer 0 (items_in bytes items) (items_in bytes left) i nodes
     → HavePaths outer (items_in bytes items) list
-paths_end bytes items i nodes list outer past same so_far content has =
-    let none : node_paths outer i (items_in bytes (drop i items)) ≡ [] = ap (λ (l : List Src). node_paths outer i (items_in bytes l)) (none_left items i past) in
-    sym (so_far content has ∙ ap (λ (l : List (List ℕ)). paths_in nodes ++ l) none ∙ append-nil (paths_in nodes) ∙ ap paths_in (sym same))
+paths_end bytes items left i nodes list outer none same so_far content has =
+    let past : node_paths outer i (items_in bytes left) ≡ [] = ap (λ (l : List Src). node_paths outer i (items_in bytes l)) none in
+    sym (so_far content has ∙ ap (λ (l : List (List ℕ)). paths_in nodes ++ l) past ∙ append-nil (paths_in nodes) ∙ ap paths_in (sym same))

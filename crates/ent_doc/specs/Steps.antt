@@ -10,18 +10,20 @@
 --   attr_value       the value of the attribute of a name
 --   are_apart        no two attributes have one expanded name
 --   attribute_at     an attribute's name and value, at their spans
---   AreTagsInPlace   each tag stands somewhere, with its parts at their spans
-use Rattle.std.specs.Prelude.{◌≡◌, ℕ, Bool, true, not, ◌&&◌, List, [], ◌∷◌, ◌++◌, Option, None, Some, Result, Ok, Err, IfSome, bytes_eq, if◌then◌else◌}
+--   IsCut            a span cuts no character of the text
+--   AreCut           .. nor do those of attributes
+use Rattle.std.specs.Prelude.{◌≡◌, ◌<◌, ◌≤◌, ℕ, length, Bool, true, not, ◌&&◌, List, [], ◌∷◌, ◌++◌, Option, None, Some, Result, Ok, Err, IfSome, bytes_eq, if◌then◌else◌}
 use Rattle.std.specs.Borrow.{Bor}
 use Rattle.std.specs.List.{list_any}
+use Rattle.std.specs.Str.{IsUtf8}
 use Rattle.xt_spec.specs.Tree.{Items}
 use Rattle.xt_spec.specs.Reading.{document}
 use Rattle.xt_spec.specs.Namespace.{NamedValue, Binding, Expanded}
 use Rattle.xt_spec.specs.Content.{Content, HasContent}
 use Rattle.xt_spec.specs.Tag.{Attribute}
 use Rattle.xt_lex.specs.declared.attribute.AttrSrc.{AttrSrc}
+use Rattle.xt_lex.specs.declared.token.Span.{Span}
 use Rattle.xt_tree.specs.Meaning.{at_span}
-use Rattle.xt_tree.specs.Places.{Mark, tag_mark, span_mark, IsTagAt}
 use Rattle.bk_spec.specs.Node.{Nodes, owned}
 use Rattle.bk_spec.specs.Fault.{Fault}
 use Rattle.bk_spec.specs.DocumentNodes.{Context, Element, and_then, named, attr_of, has_name, nodes_of}
@@ -91,8 +93,13 @@ are_apart (a ∷ others) = not (list_any (λ other. has_name (attr_in a) (attr_i
 abbrev pub attribute_at : List ℕ → AttrSrc → Attribute
 attribute_at bytes source = record { space = []; name = at_span bytes source.name; equals = []; quoted = at_span bytes source.value }
 
--- each of the tags stands somewhere in the bytes, with its parts at their spans
-abbrev pub AreTagsInPlace : List ℕ → List Mark → Type 0
-AreTagsInPlace bytes [] = Unit {0}
-AreTagsInPlace bytes (tag_mark tag ∷ marks) = ((at : ℕ) × IsTagAt bytes at tag) × AreTagsInPlace bytes marks
-AreTagsInPlace bytes (span_mark span ∷ marks) = AreTagsInPlace bytes marks
+-- the span cuts no character: it takes at least one byte, ends within the text, and what stands at it is UTF-8
+pub record IsCut (text : List ℕ) (span : Span) : Type 0 where
+  pub some : span.from < span.to
+  pub within : span.to ≤ length text
+  pub utf8 : IsUtf8 (at_span text span)
+
+-- .. nor do the spans of the attributes' names and values
+abbrev pub AreCut : List ℕ → List AttrSrc → Type 0
+AreCut text [] = Unit {0}
+AreCut text (a ∷ others) = IsCut text a.name × IsCut text a.value × AreCut text others

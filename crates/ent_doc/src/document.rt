@@ -1,6 +1,7 @@
 //! The nodes of the items of a document.
 ghost use Rattle.std.specs.Prelude.{◌≡◌, [], IfOk, IfErr, IfSome, length, Ok};
 ghost use Rattle.xt_spec.specs.Content.{Content, HasContent};
+ghost use Rattle.xt_spec.specs.Reading.{document, IsReading};
 ghost use Rattle.bk_spec.specs.DocumentNodes.{nodes_of};
 ghost use Rattle.bk_spec.specs.Opening.{top_context};
 ghost use Rattle.xt_tree.specs.Meaning.{items_in};
@@ -21,7 +22,7 @@ use bk_name::{BadBase, Base, Name, uri_of};
 use sqlite_items::Items;
 use std::alloc::{AllocError, Global};
 use xt_table::SharedText;
-use xt_tree::Src;
+use xt_tree::Row;
 use xt_value::Scope;
 
 /// The base that is assumed.
@@ -49,8 +50,9 @@ pub fn document_nodes(
     alloc: Global,
     file: &Name,
     text: &str,
-    items: &[Src],
+    items: &Row<'_>,
 ) -> Result<Items<Node>, OpenFault>
+    requires reading { IsReading document text.now (items_in text.now items.now) }
     requires place { AreInPlace text.now 0 (marks_of items.now) (length text.now) }
     ensures value { IfOk result (λ nodes. (content : Content) → HasContent (items_in text.now items.now) content → nodes_of file.now (top_context file.now) 0 content ≡ Ok (nodes_in nodes)) }
     ensures paths { IfOk result (λ nodes. (content : Content) → HasContent (items_in text.now items.now) content → paths_in nodes ≡ node_paths [] 0 (items_in text.now items.now)) }

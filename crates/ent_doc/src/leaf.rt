@@ -9,7 +9,7 @@ ghost use Rattle.bk_spec.specs.DocumentNodes.{Context};
 ghost use Rattle.bk_info.specs.Nodes.{nodes_in};
 ghost use Rattle.bk_info.specs.Vias.{HaveVia};
 ghost use Rattle.ent_doc.specs.Opening.{open_fault};
-ghost use Rattle.ent_doc.specs.Steps.{Gives, GivesFault, HasPaths, some_node};
+ghost use Rattle.ent_doc.specs.Steps.{Gives, GivesFault, HasPaths, IsCut, some_node};
 
 use crate::fault::OpenFault;
 use crate::source::Source;
@@ -28,6 +28,7 @@ pub(crate) fn text_node(
     span: Span,
     address: Address,
 ) -> Result<Option<Node>, OpenFault>
+    requires cut { IsCut source.now.text.now span }
     requires owned { address.origin ≡ owned source.now.file.now document }
     ensures value { IfOk result (λ node. (context : Context) (rest : Items) → Gives source.now.file.now context (leaf text_item (at_span source.now.text.now span) rest) rest work.old.count work.new.count (some_node node)) }
     ensures count { IfOk result (λ node. work.new.count ≡ work.old.count + node_count (nodes_in (some_node node))) }
@@ -35,7 +36,7 @@ pub(crate) fn text_node(
     ensures via { IfOk result (λ node. HaveVia address.via (some_node node)) }
     ensures fault { IfErr result (λ fault. (context : Context) (rest : Items) → GivesFault source.now.file.now context (leaf text_item (at_span source.now.text.now span) rest) work.old.count (open_fault fault)) }
 {
-    let value = Txt::from_string(text_value(alloc, source.text_at(span)?, false)?);
+    let value = Txt::from_string(text_value(alloc, source.text_at(span), false)?);
     if value.len() == 0 {
         return Ok(None);
     }
@@ -51,6 +52,7 @@ pub(crate) fn comment_node(
     span: Span,
     address: Address,
 ) -> Result<Node, OpenFault>
+    requires cut { IsCut source.now.text.now span }
     requires owned { address.origin ≡ owned source.now.file.now document }
     ensures value { IfOk result (λ node. (context : Context) (rest : Items) → Gives source.now.file.now context (leaf comment_item (at_span source.now.text.now span) rest) rest work.old.count work.new.count (node ∷ [])) }
     ensures count { IfOk result (λ node. work.new.count ≡ work.old.count + node_count (nodes_in (node ∷ []))) }
@@ -58,7 +60,7 @@ pub(crate) fn comment_node(
     ensures via { IfOk result (λ node. HaveVia address.via (node ∷ [])) }
     ensures fault { IfErr result (λ fault. (context : Context) (rest : Items) → GivesFault source.now.file.now context (leaf comment_item (at_span source.now.text.now span) rest) work.old.count (open_fault fault)) }
 {
-    let value = comment_text(alloc, source.text_at(span)?)?;
+    let value = comment_text(alloc, source.text_at(span))?;
     work.count_one(source)?;
     Ok(Node::Comment {
         value: Txt::from_string(value),
@@ -74,6 +76,7 @@ pub(crate) fn pi_node(
     span: Span,
     address: Address,
 ) -> Result<Node, OpenFault>
+    requires cut { IsCut source.now.text.now span }
     requires owned { address.origin ≡ owned source.now.file.now document }
     ensures value { IfOk result (λ node. (context : Context) (rest : Items) → Gives source.now.file.now context (leaf pi_item (at_span source.now.text.now span) rest) rest work.old.count work.new.count (node ∷ [])) }
     ensures count { IfOk result (λ node. work.new.count ≡ work.old.count + node_count (nodes_in (node ∷ []))) }
@@ -81,7 +84,7 @@ pub(crate) fn pi_node(
     ensures via { IfOk result (λ node. HaveVia address.via (node ∷ [])) }
     ensures fault { IfErr result (λ fault. (context : Context) (rest : Items) → GivesFault source.now.file.now context (leaf pi_item (at_span source.now.text.now span) rest) work.old.count (open_fault fault)) }
 {
-    let parts = pi_parts(alloc, source.text_at(span)?)?;
+    let parts = pi_parts(alloc, source.text_at(span))?;
     work.count_one(source)?;
     Ok(Node::Pi {
         target: work.names.text(alloc, parts.target)?,

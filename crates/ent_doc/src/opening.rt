@@ -23,12 +23,12 @@ use std::alloc::{AllocError, Global};
 use std::sync::ledger::Ledger;
 use xt_lex::{Steps, text_of};
 use xt_read::{Unread, has_content, read_document};
-use xt_tree::Src;
+use xt_tree::{Row, Tape};
 
 /// A document: its syntax items, and its nodes.
 #[derive(Debug, Drop)]
 pub struct Opened {
-    pub items: Items<Src>,
+    pub items: Tape,
     pub nodes: Items<Node>,
 }
 
@@ -70,7 +70,7 @@ fn opened_nodes(
     alloc: Global,
     file: &Name,
     text: &str,
-    items: &[Src],
+    items: &Row<'_>,
 ) -> Result<Items<Node>, OpenFault>
     requires size { length text.now ≤ most_file_bytes }
     requires reading { IsReading document text.now (items_in text.now items.now) }
@@ -106,9 +106,9 @@ pub fn open_document<L: Ledger>(
     ensures count { steps.new ≡ steps.old + length bytes.now }
 {
     match read_document(alloc, bytes, steps) {
-        Ok(items) => {
-            let nodes = opened_nodes(alloc, file, as_text(bytes), items.as_slice())?;
-            Ok(Opened { items, nodes })
+        Ok(tape) => {
+            let nodes = opened_nodes(alloc, file, as_text(bytes), &tape.items())?;
+            Ok(Opened { items: tape, nodes })
         }
         Err(unread) => Err(OpenFault::Book(fault_of(file, unread)?)),
     }

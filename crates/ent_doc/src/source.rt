@@ -4,6 +4,7 @@ ghost use Rattle.xt_spec.specs.Namespace.{prefix_of};
 ghost use Rattle.xt_tree.specs.Meaning.{at_span};
 ghost use Rattle.bk_spec.specs.Fault as spec;
 ghost use Rattle.bk_info.specs.Nodes.{fault_in};
+ghost use Rattle.ent_doc.specs.Steps.{IsCut};
 
 use bk_info::BookFault;
 use bk_name::Name;
@@ -18,15 +19,21 @@ pub(crate) struct Source<'a> {
     pub(crate) text: &'a str,
 }
 
+/// What stands at a span that cuts no character.
+fn cut(text: &str, span: Span) -> &str
+    requires cut { IsCut text.now span }
+    ensures value { result.now ≡ at_span text.now span }
+{
+    &text[span.from as usize..span.to as usize]
+}
+
 impl<'a> Source<'a> {
-    /// The text at a span; none where the span isn't one of characters.
-    pub(crate) fn text_at(&self, span: Span) -> Result<&'a str, AllocError>
-        ensures value { IfOk result (λ piece. piece.now ≡ at_span self.now.text.now span) }
+    /// The text at a span that cuts no character.
+    pub(crate) fn text_at(&self, span: Span) -> &'a str
+        requires cut { IsCut self.now.text.now span }
+        ensures value { result.now ≡ at_span self.now.text.now span }
     {
-        match self.text.get(span.from as usize..span.to as usize) {
-            Some(piece) => Ok(piece),
-            None => Err(AllocError),
-        }
+        cut(self.text, span)
     }
 
     /// The file has too many nodes.

@@ -18,7 +18,7 @@ use Rattle.xt_lex.proofs.Declarations.{declaration_takes, is_values, values_agai
 use Rattle.xt_lex.specs.XmlDecl.{declared_values}
 use Rattle.xt_lex.proofs.Doctypes.{doctype_takes, doctype_again}
 use Rattle.xt_lex.proofs.NameLemmas.{ncname_passes}
-use Rattle.xt_lex.proofs.Instructions.{target_takes, target_again, data_takes, data_again, data_no_name}
+use Rattle.xt_lex.proofs.Instructions.{behind_target, pi_spelled, target_takes, target_again, data_takes, data_again, data_no_name}
 use Rattle.xt_lex.proofs.References.{pair_parts}
 use Rattle.xt_lex.proofs.StepLemmas.{bind_some, take_while_split, take_while_append, after_takes, name_run_utf8}
 use Rattle.xt_lex.proofs.Tags.{IsTagKind, tag_takes, tag_again}
@@ -132,7 +132,7 @@ instruction_takes s r k u h =
     let front = take_while is_name_byte s in
     let found = data_takes target.0 end.0 (utf8_rest s front target.0 u (ncname_utf8 front name.0.0) name.1) end.1 in
     let text = codes "<?" ++ front ++ found.0 ++ codes "?>" in
-    let spelled = spelled_as k pi text (sym same.0) ((front, found.0, name.0, found.1, refl), tt) in
+    let spelled = spelled_as k pi text (sym same.0) (pi_spelled front found.0 name.0 found.1, tt) in
     (text, instruction_joined s target.0 front found.0 end.0 name.1 found.2 ∙ ap (λ r. text ++ r) same.1, spelled.0, spelled.1)
 
 xml_joined : (s run_ rest : List ℕ) → s ≡ run_ ++ rest → run_ ≡ codes "xml" → codes "<?" ++ s ≡ codes "<?xml" ++ rest
@@ -212,8 +212,8 @@ angle_markup_tag s r k h =
 again_behind : (t front inner ending r : List ℕ) → t ≡ front ++ inner ++ ending → t ++ r ≡ front ++ (inner ++ (ending ++ r))
 again_behind t front inner ending r e = rw e (simp append_assoc)
 
-instruction_split : (t target inner r : List ℕ) → t ≡ codes "<?" ++ target ++ inner ++ codes "?>" → t ++ r ≡ codes "<?" ++ (target ++ (inner ++ (codes "?>" ++ r)))
-instruction_split t target inner r e = rw e (simp append_assoc)
+instruction_split : (t target space inner r : List ℕ) → t ≡ codes "<?" ++ target ++ space ++ inner ++ codes "?>" → t ++ r ≡ codes "<?" ++ (target ++ ((space ++ inner) ++ (codes "?>" ++ r)))
+instruction_split t target space inner r e = rw e (simp append_assoc)
 
 xml_again : (s rest r : List ℕ) (d : Declaration) → take_while is_name_byte s ≡ codes "xml" → drop_while is_name_byte s ≡ rest → declared_values.read rest ≡ Some (d, r) → pi_or_declaration s ≡ Some (declaration, r)
 unfolding pi_or_declaration
@@ -238,13 +238,15 @@ special_again t r comment (inner, chars_, lacks_, e) s =
     let split = again_behind t (codes "<!--") inner (codes "-->") r e in
     let found = after_chars_again (codes "--") inner (62 ∷ r) (omega arith) chars_ (fresh_dashes inner (62 ∷ r) lacks_) in
     rw split (rw found refl)
-special_again t r pi (target, inner, name, is, e) s =
-    let split = instruction_split t target inner r e in
-    let no_name = data_no_name inner r is in
-    let one = target_again target (inner ++ (codes "?>" ++ r)) name no_name.0 no_name.1 in
-    let two = data_again inner r is in
-    let front : take_while is_name_byte (target ++ (inner ++ (codes "?>" ++ r))) ≡ target = take_while_append is_name_byte target _ (ncname_passes target name.0) ∙ ap (λ t. target ++ t) no_name.0 ∙ append-nil target in
-    let other : bytes_eq (take_while is_name_byte (target ++ (inner ++ (codes "?>" ++ r)))) (codes "xml") ≡ false = ap (λ t. bytes_eq t (codes "xml")) front ∙ not_xml target name.1 in
+special_again t r pi (target, inner, chars_, lacks_, is) s =
+    let text = is.space ++ inner in
+    let behind = behind_target t target inner chars_ lacks_ is in
+    let split = instruction_split t target is.space inner r is.spelled in
+    let no_name = data_no_name text r behind in
+    let one = target_again target (text ++ (codes "?>" ++ r)) is.is_target no_name.0 no_name.1 in
+    let two = data_again text r behind in
+    let front : take_while is_name_byte (target ++ (text ++ (codes "?>" ++ r))) ≡ target = take_while_append is_name_byte target _ (ncname_passes target is.is_target.0) ∙ ap (λ t. target ++ t) no_name.0 ∙ append-nil target in
+    let other : bytes_eq (take_while is_name_byte (target ++ (text ++ (codes "?>" ++ r)))) (codes "xml") ≡ false = ap (λ t. bytes_eq t (codes "xml")) front ∙ not_xml target is.is_target.1 in
     rw split (rw other (rw one (rw two refl)))
 special_again t r declaration (d, is) s =
     let values = is_values d t is in
@@ -272,7 +274,7 @@ special_begins cdata_section t (inner, (chars_, lacks_, e)) s = (_, e)
 special_begins comment t (inner, chars_, lacks_, e) s = (_, e)
 special_begins declaration t (d, is) s = (_, is.spelled)
 special_begins doctype t is s = (_, is.spelled)
-special_begins pi t (target, inner, name, is, e) s = (_, e)
+special_begins pi t (target, inner, chars_, lacks_, is) s = (_, is.spelled)
 special_begins start_tag t h s = absurd s
 special_begins empty_tag t h s = absurd s
 special_begins end_tag t h s = absurd s

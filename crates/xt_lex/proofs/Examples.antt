@@ -103,14 +103,20 @@ reserved_targets = (refl, refl, refl)
 pi_with_data : IsPi (codes "<?sort  by=\"a?\"?>")
 pi_with_data = (
   codes "sort",
-  codes "  by=\"a?\"",
-  (plain_is_ncname (codes "sort") refl, refl),
-  inr (codes "  ", codes "by=\"a?\"", (refl, λ e. cc), spelt_ascii is_char (codes "by=\"a?\"") refl refl, refl, refl),
+  codes "by=\"a?\"",
+  spelt_ascii is_char (codes "by=\"a?\"") refl refl,
   refl,
+  record { space = codes "  "; is_target = (plain_is_ncname (codes "sort") refl, refl); is_space = refl; apart = λ none. cc; begins = refl; spelled = refl },
 )
 
 pi_without_data : IsPi (codes "<?page?>")
-pi_without_data = (codes "page", codes "", (plain_is_ncname (codes "page") refl, refl), inl refl, refl)
+pi_without_data = (
+  codes "page",
+  [],
+  spelt_ascii is_char [] refl refl,
+  refl,
+  record { space = []; is_target = (plain_is_ncname (codes "page") refl, refl); is_space = refl; apart = λ none. refl; begins = refl; spelled = refl },
+)
 
 versions : (is_version_num (codes "1.0") ≡ true) × (is_version_num (codes "1.") ≡ false) × (is_version_num (codes "2.0") ≡ false)
 versions = (refl, refl, refl)

@@ -1,7 +1,8 @@
 -- What the crates above cite of this one: laws of tokens, attributes, names and references, on lists of bytes alone.
 --
 --   token_longest        a text that spells a token is the longest one at the front of itself and what may follow it
---   spells_utf8          a token is UTF-8, so a text may be cut behind one: front_boundary
+--   spells_utf8          a token is UTF-8, so a text may be cut behind one: front_boundary; so is a name (qname_utf8) and an
+--                        attribute's value (quoted_utf8)
 --   front_some           a token takes at least one byte
 --   some_front           a token stands at the front of a text, or none does
 --   some_chars           so many bytes stand before the first character that is no Char
@@ -33,4 +34,5 @@ pub use Rattle.xt_lex.proofs.Runs.{after_is, drop_while_is, boundary_at_stop, bo
 pub use Rattle.xt_lex.proofs.Spelled.{plain_is_ncname}
 pub use Rattle.xt_lex.proofs.Spelling.{bytes_lack, encode_joined, list_all_behind, list_all_joined, list_all_weaker, spelt_char, spelt_joined}
 pub use Rattle.xt_lex.proofs.StepLemmas.{after_takes, drop_while_append, bind_some, take_while_append, take_while_passes, take_while_split, space_no_name, utf8_behind}
-pub use Rattle.xt_lex.proofs.Utf8.{ascii, char_scalar}
+pub use Rattle.xt_lex.proofs.Utf8.{ascii, char_scalar, qname_utf8}
+pub use Rattle.xt_lex.proofs.Values.{quoted_utf8}

@@ -341,7 +341,7 @@ pub comment_begins : (t : List ℕ) → IsComment t → (tail : List ℕ) × (t 
 comment_begins t (inner, chars, lacks, e) = (codes "!--" ++ inner ++ codes "-->", e ∙ simp append_assoc)
 
 pub pi_begins : (t : List ℕ) → IsPi t → (tail : List ℕ) × (t ≡ 0x3C ∷ tail)
-pi_begins t (target, inner, is, data_is, e) = (codes "?" ++ target ++ inner ++ codes "?>", e ∙ simp append_assoc)
+pi_begins t (target, inner, chars, lacks, is) = (codes "?" ++ target ++ is.space ++ inner ++ codes "?>", is.spelled ∙ simp append_assoc)
 
 pub doctype_begins : (t : List ℕ) → IsDoctype t → (tail : List ℕ) × (t ≡ 0x3C ∷ tail)
 doctype_begins t is = (codes "!DOCTYPE" ++ is.space ++ is.name ++ is.external ++ is.blank ++ is.brackets ++ codes ">", is.spelled ∙ simp append_assoc)

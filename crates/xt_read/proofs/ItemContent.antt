@@ -1,12 +1,14 @@
 -- Items are tested for content, one by one.
-use Rattle.std.proofs.Common.{◌≡◌, ◌∙◌, ℕ, ◌+◌, ◌<◌, ◌≤◌, List, [], ◌∷◌, ◌++◌, length, drop, get_or, refl, sym, ap, subst, Bool, true, false, arith, IsTrue, ◌↔◌, Option, Some, None, option_map, inl, inr, suc, zero}
+use Rattle.std.proofs.Common.{◌≡◌, ◌∙◌, ℕ, ◌<◌, ◌≤◌, List, [], ◌∷◌, ◌++◌, length, refl, sym, ap, subst, Bool, true, false, arith, IsTrue, ◌↔◌, Option, Some, None, option_map, inl, inr, suc}
 use Rattle.std.specs.List.{AllByRecursion}
-use Rattle.std.proofs.lemmas.List.{drop_more, drop_all, length-append}
+use Rattle.std.proofs.lemmas.List.{length-append}
 use Rattle.xt_spec.specs.Tag.{Attribute, Tag, tag_text}
 use Rattle.xt_spec.specs.Tree.{Items, nil, element, leaf, before, LeafKind, Item, element_item, leaf_item, text_item, reference_item, comment_item, pi_item, gap}
 use Rattle.xt_spec.specs.Reading.{IsElement, IsContent, Stage, before_doctype, before_root, behind_root, Leads, tag_ending, IsMarked, IsDeclared, document, IsReading}
 use Rattle.xt_spec.specs.Declaration.{is_xml_declaration}
+use Rattle.xt_spec.specs.Markup.{IsComment, IsPi}
 use Rattle.xt_spec.specs.Namespace.{NamedValue}
+use Rattle.xt_spec.specs.Text.{IsTextItem}
 use Rattle.xt_spec.specs.Content.{nothing_given, element_content, text_content, typed, HaveValues}
 use Rattle.xt_lex.specs.Place.{EndsTag}
 use Rattle.xt_lex.specs.declared.token.Span.{Span}
@@ -150,6 +152,28 @@ content_both (leaf_item pi_item t) rest (content, (target, inner, none, has, end
 content_both (leaf_item gap t) rest (content, (none, end)) (others, behind) = (others, (none, behind))
 content_both (leaf_item reference_item t) rest (content, never) others = absurd never
 
+-- the first of items, and the others: where they are, and that they are spelled
+pub record FirstPlaced (text : List ℕ) (items : List Src) (item : Src) : Type 0 where
+  pub placed : ArePlaced text (marks_in item)
+  pub spelled : AreSpelled (before (item_of text item) nil)
+  pub placed_others : ArePlaced text (marks_of items)
+  pub spelled_others : AreSpelled (items_in text items)
+
+pub first_placed : (text : List ℕ) (items rest : List Src) (item : Src) → items ≡ item ∷ rest → ArePlaced text (marks_of items) → AreSpelled (items_in text items) → FirstPlaced text rest item
+first_placed text items rest item is placed spelled = cases (subst (λ (d : List Src). ArePlaced text (marks_of d)) is placed) (subst (λ (d : List Src). AreSpelled (items_in text d)) is spelled)
+  where
+    cases : ArePlaced text (marks_of (item ∷ rest)) → AreSpelled (items_in text (item ∷ rest)) → FirstPlaced text rest item
+    cases p s =
+        let (mid, first, others) = in_place-split text p.from p.to (marks_in item) (marks_of rest) p.placed in
+        let end = marks_after text (marks_of rest) mid p.to others in
+        let both = spelled_before (item_of text item) (items_in text rest) s in
+        record {
+          placed = record { from = p.from; to = mid; placed = first; within = omega (arith, end, p.within) };
+          spelled = both.0;
+          placed_others = record { from = mid; to = p.to; placed = others; within = p.within };
+          spelled_others = both.1;
+        }
+
 -- the first of what is left, and the others
 pub record FirstItem (text : List ℕ) (items : List Src) (item : Src) (all : Items) : Type 0 where
   pub placed : ArePlaced text (marks_in item)
@@ -159,22 +183,20 @@ pub record FirstItem (text : List ℕ) (items : List Src) (item : Src) (all : It
   pub forth : GiveContent all → GiveContent (before (item_of text item) nil) × GiveContent (items_in text items)
   pub back : GiveContent (before (item_of text item) nil) → GiveContent (items_in text items) → GiveContent all
 
-pub first_item : (text : List ℕ) (items : List Src) (i : ℕ) (item : Src) (all : Items) → i < length items → item ≡ get_or items i item → ItemsLeft text (drop i items) all → FirstItem text (drop (i + 1) items) item all
-first_item text items i item all within is l = cases (subst (λ (d : List Src). ItemsLeft text d all) (drop_more items i item within ∙ ap (λ (x : Src). x ∷ drop (i + 1) items) (sym is)) l)
+pub first_item : (text : List ℕ) (items rest : List Src) (item : Src) (all : Items) → items ≡ item ∷ rest → ItemsLeft text items all → FirstItem text rest item all
+first_item text items rest item all is l =
+    let f = first_placed text items rest item is l.placed l.spelled in
+    cases f (subst (λ (d : List Src). ItemsLeft text d all) is l)
   where
-    cases : ItemsLeft text (item ∷ drop (i + 1) items) all → FirstItem text (drop (i + 1) items) item all
-    cases l =
-        let (mid, first, others) = in_place-split text l.placed.from l.placed.to (marks_in item) (marks_of (drop (i + 1) items)) l.placed.placed in
-        let end = marks_after text (marks_of (drop (i + 1) items)) mid l.placed.to others in
-        let spelled = spelled_before (item_of text item) (items_in text (drop (i + 1) items)) l.spelled in
-        record {
-          placed = record { from = l.placed.from; to = mid; placed = first; within = omega (arith, end, l.placed.within) };
-          spelled = spelled.0;
-          placed_others = record { from = mid; to = l.placed.to; placed = others; within = l.placed.within };
-          spelled_others = spelled.1;
-          forth = λ p. content_before (item_of text item) (items_in text (drop (i + 1) items)) (l.forth p);
-          back = λ x y. l.back (content_both (item_of text item) (items_in text (drop (i + 1) items)) x y);
-        }
+    cases : FirstPlaced text rest item → ItemsLeft text (item ∷ rest) all → FirstItem text rest item all
+    cases f l = record {
+      placed = f.placed;
+      spelled = f.spelled;
+      placed_others = f.placed_others;
+      spelled_others = f.spelled_others;
+      forth = λ p. content_before (item_of text item) (items_in text rest) (l.forth p);
+      back = λ x y. l.back (content_both (item_of text item) (items_in text rest) x y);
+    }
 
 pub items_more : (text : List ℕ) (items : List Src) (item : Src) (all : Items) (has : Bool) → FirstItem text items item all → (IsTrue has ↔ GiveContent (before (item_of text item) nil)) → has ≡ true → ItemsLeft text items all
 items_more text items item all has f test is = record { placed = f.placed_others; spelled = f.spelled_others; forth = λ p. (f.forth p).1; back = λ p. f.back (test.0 is) p }
@@ -182,8 +204,8 @@ items_more text items item all has f test is = record { placed = f.placed_others
 pub items_fail : (text : List ℕ) (items : List Src) (item : Src) (all : Items) (has : Bool) → FirstItem text items item all → (IsTrue has ↔ GiveContent (before (item_of text item) nil)) → has ≡ false → GiveContent all → ⊥
 items_fail text items item all has f test is p = let h : has ≡ true = test.1 (f.forth p).0 in absurd (cc)
 
-pub items_done : (text : List ℕ) (items : List Src) (i : ℕ) (all : Items) → length items ≤ i → ItemsLeft text (drop i items) all → GiveContent all
-items_done text items i all past l = (subst (λ (d : List Src). ItemsLeft text d all) (drop_all i items past) l).back (nothing_given, refl)
+pub items_done : (text : List ℕ) (items : List Src) (all : Items) → items ≡ [] → ItemsLeft text items all → GiveContent all
+items_done text items all none l = (subst (λ (d : List Src). ItemsLeft text d all) none l).back (nothing_given, refl)
 
 -- ---- each kind of item
 
@@ -229,33 +251,35 @@ always items gives = ((λ t. gives), (λ g. refl))
 leaf_shape : (text t : List ℕ) (kind : LeafKind) (item : Src) → item_of text item ≡ leaf_item kind t → before (item_of text item) nil ≡ leaf kind t nil
 leaf_shape text t kind item is = ap (λ i. before i nil) is
 
+text_shape : (text : List ℕ) (item : Src) (span : Span) → item ≡ src.Text span → before (item_of text item) nil ≡ leaf text_item (at_span text span) nil
+text_shape text item span is = leaf_shape text (at_span text span) text_item item (ap (item_of text) (is ∙ sym (src.rolls-Text span)) ∙ fold-roll-Src Item (item_step text) (Src-F.Text span))
+
+comment_shape : (text : List ℕ) (item : Src) (span : Span) → item ≡ src.Comment span → before (item_of text item) nil ≡ leaf comment_item (at_span text span) nil
+comment_shape text item span is = leaf_shape text (at_span text span) comment_item item (ap (item_of text) (is ∙ sym (src.rolls-Comment span)) ∙ fold-roll-Src Item (item_step text) (Src-F.Comment span))
+
+pi_shape : (text : List ℕ) (item : Src) (span : Span) → item ≡ src.Pi span → before (item_of text item) nil ≡ leaf pi_item (at_span text span) nil
+pi_shape text item span is = leaf_shape text (at_span text span) pi_item item (ap (item_of text) (is ∙ sym (src.rolls-Pi span)) ∙ fold-roll-Src Item (item_step text) (Src-F.Pi span))
+
+pub text_spelled : (text : List ℕ) (item : Src) (span : Span) → item ≡ src.Text span → AreSpelled (before (item_of text item) nil) → IsTextItem (at_span text span)
+text_spelled text item span is spelled =
+    let here : AreSpelled (leaf text_item (at_span text span) nil) = subst AreSpelled (text_shape text item span is) spelled in here.0
+
+pub comment_spelled : (text : List ℕ) (item : Src) (span : Span) → item ≡ src.Comment span → AreSpelled (before (item_of text item) nil) → IsComment (at_span text span)
+comment_spelled text item span is spelled =
+    let here : AreSpelled (leaf comment_item (at_span text span) nil) = subst AreSpelled (comment_shape text item span is) spelled in here.0
+
+pub pi_spelled : (text : List ℕ) (item : Src) (span : Span) → item ≡ src.Pi span → AreSpelled (before (item_of text item) nil) → IsPi (at_span text span)
+pi_spelled text item span is spelled =
+    let here : AreSpelled (leaf pi_item (at_span text span) nil) = subst AreSpelled (pi_shape text item span is) spelled in here.0
+
 pub text_gives : (text : List ℕ) (item : Src) (span : Span) → item ≡ src.Text span → AreSpelled (before (item_of text item) nil) → (IsTrue true ↔ GiveContent (before (item_of text item) nil))
 text_gives text item span is spelled =
-    let shape = leaf_shape text (at_span text span) text_item item (ap (item_of text) (is ∙ sym (src.rolls-Text span)) ∙ fold-roll-Src Item (item_step text) (Src-F.Text span)) in
-    let here : AreSpelled (leaf text_item (at_span text span) nil) = subst AreSpelled shape spelled in
-    subst (λ i. IsTrue true ↔ GiveContent i) (sym shape) (always (leaf text_item (at_span text span) nil) (text_content_of (at_span text span) here.0))
+    subst (λ i. IsTrue true ↔ GiveContent i) (sym (text_shape text item span is)) (always (leaf text_item (at_span text span) nil) (text_content_of (at_span text span) (text_spelled text item span is spelled)))
 
 pub comment_gives : (text : List ℕ) (item : Src) (span : Span) → item ≡ src.Comment span → AreSpelled (before (item_of text item) nil) → (IsTrue true ↔ GiveContent (before (item_of text item) nil))
 comment_gives text item span is spelled =
-    let shape = leaf_shape text (at_span text span) comment_item item (ap (item_of text) (is ∙ sym (src.rolls-Comment span)) ∙ fold-roll-Src Item (item_step text) (Src-F.Comment span)) in
-    let here : AreSpelled (leaf comment_item (at_span text span) nil) = subst AreSpelled shape spelled in
-    subst (λ i. IsTrue true ↔ GiveContent i) (sym shape) (always (leaf comment_item (at_span text span) nil) (comment_content_of (at_span text span) here.0))
+    subst (λ i. IsTrue true ↔ GiveContent i) (sym (comment_shape text item span is)) (always (leaf comment_item (at_span text span) nil) (comment_content_of (at_span text span) (comment_spelled text item span is spelled)))
 
 pub pi_gives : (text : List ℕ) (item : Src) (span : Span) → item ≡ src.Pi span → AreSpelled (before (item_of text item) nil) → (IsTrue true ↔ GiveContent (before (item_of text item) nil))
 pi_gives text item span is spelled =
-    let shape = leaf_shape text (at_span text span) pi_item item (ap (item_of text) (is ∙ sym (src.rolls-Pi span)) ∙ fold-roll-Src Item (item_step text) (Src-F.Pi span)) in
-    let here : AreSpelled (leaf pi_item (at_span text span) nil) = subst AreSpelled shape spelled in
-    subst (λ i. IsTrue true ↔ GiveContent i) (sym shape) (always (leaf pi_item (at_span text span) nil) (pi_content_of (at_span text span) here.0))
-
--- ---- the recursion ends: an element has more marks than its children
-
-pub kids_fewer : (item : Src) (head : TagSrc) (kids slice : List Src) (tail : Option Span) → item ≡ src.Elem tail head kids → slice ≡ kids → length (marks_of slice) < length (marks_in item)
-kids_fewer item head kids slice tail is same = omega (arith, ap (λ i. length (marks_in i)) is, ap length (element_marks head kids tail), length-append (marks_of kids) (tail_marks tail), ap (λ k. length (marks_of k)) same)
-
-marks_member : (items : List Src) (i : ℕ) (d : Src) → i < length items → length (marks_in (get_or items i d)) ≤ length (marks_of items)
-marks_member [] i d within = absurd (omega (arith, within))
-marks_member (x ∷ items) zero d within = omega (arith, length-append (marks_in x) (marks_of items))
-marks_member (x ∷ items) (suc i) d within = omega (arith, length-append (marks_in x) (marks_of items), marks_member items i d (omega (arith, within)))
-
-pub item_fewer : (items : List Src) (i : ℕ) (item : Src) → i < length items → item ≡ get_or items i item → length (marks_in item) ≤ length (marks_of items)
-item_fewer items i item within is = subst (λ (x : Src). length (marks_in x) ≤ length (marks_of items)) (sym is) (marks_member items i item within)
+    subst (λ i. IsTrue true ↔ GiveContent i) (sym (pi_shape text item span is)) (always (leaf pi_item (at_span text span) nil) (pi_content_of (at_span text span) (pi_spelled text item span is spelled)))

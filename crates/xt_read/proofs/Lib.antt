@@ -18,6 +18,7 @@ mod TokenSteps
 mod Whole
 mod ValueParts
 mod Cuts
+mod TextCuts
 mod TagValues
 mod LeafContent
 mod ItemContent

@@ -1,6 +1,6 @@
 -- Whether the attributes of a tag have values, one by one.
 use Rattle.std.proofs.Common.{◌⊎◌, ◌≡◌, ◌≢◌, ◌∙◌, ℕ, ◌+◌, ◌-◌, ◌<◌, ◌≤◌, List, [], ◌∷◌, ◌++◌, length, take, drop, get_or, refl, sym, ap, subst, Bool, true, false, arith, append_assoc, IsTrue, ◌↔◌, IsUtf8, inl, inr}
-use Rattle.std.proofs.lemmas.List.{length-append, length-take, length-drop, drop_more, drop_all, drop-drop, take-append-drop, take_at}
+use Rattle.std.proofs.lemmas.List.{length-append, length-take, length-drop, drop-drop, take-append-drop, take_at}
 use Rattle.std.proofs.lemmas.Str.{IsCharBoundary-before_ascii}
 use Rattle.xt_read.proofs.TokenSteps.{cut_behind, first_of}
 use Rattle.std.specs.List.{AllByRecursion, concat, slice_range}
@@ -99,10 +99,10 @@ pub record FirstLeft (text : List ℕ) (spans : List AttrSrc) (s : AttrSrc) (all
   pub forth : AllByRecursion HasValue all → HasValue first × AllByRecursion HasValue others
   pub back : HasValue first → AllByRecursion HasValue others → AllByRecursion HasValue all
 
-pub left_step : (text : List ℕ) (spans : List AttrSrc) (i : ℕ) (d : AttrSrc) (all : List Attribute) → i < length spans → IsLeft text (drop i spans) all → FirstLeft text (drop (i + 1) spans) (get_or spans i d) all
-left_step text spans i d all within l = cases l.left (subst (λ (l' : List AttrSrc). StandAll text l' l.left) (drop_more spans i d within) l.stand) l.forth l.back
+pub left_step : (text : List ℕ) (spans rest : List AttrSrc) (d : AttrSrc) (all : List Attribute) → spans ≡ d ∷ rest → IsLeft text spans all → FirstLeft text rest d all
+left_step text spans rest d all is l = cases l.left (subst (λ (l' : List AttrSrc). StandAll text l' l.left) is l.stand) l.forth l.back
   where
-    cases : (left : List Attribute) → StandAll text (get_or spans i d ∷ drop (i + 1) spans) left → (AllByRecursion HasValue all → AllByRecursion HasValue left) → (AllByRecursion HasValue left → AllByRecursion HasValue all) → FirstLeft text (drop (i + 1) spans) (get_or spans i d) all
+    cases : (left : List Attribute) → StandAll text (d ∷ rest) left → (AllByRecursion HasValue all → AllByRecursion HasValue left) → (AllByRecursion HasValue left → AllByRecursion HasValue all) → FirstLeft text rest d all
     cases [] stand forth back = absurd stand
     cases (a ∷ others) stand forth back = record { first = a; others = others; stands = stand.0; stand = stand.1; forth = forth; back = λ x y. back (x, y) }
 
@@ -119,8 +119,8 @@ left_none text all l = l.back (cases l.left l.stand)
     cases [] stand = tt
     cases (a ∷ more) stand = absurd stand
 
-pub all_left : (text : List ℕ) (spans : List AttrSrc) (i : ℕ) (all : List Attribute) → length spans ≤ i → IsLeft text (drop i spans) all → AllByRecursion HasValue all
-all_left text spans i all past l = left_none text all (subst (λ (s : List AttrSrc). IsLeft text s all) (drop_all i spans past) l)
+pub all_left : (text : List ℕ) (spans : List AttrSrc) (all : List Attribute) → spans ≡ [] → IsLeft text spans all → AllByRecursion HasValue all
+all_left text spans all none l = left_none text all (subst (λ (s : List AttrSrc). IsLeft text s all) none l)
 
 -- ---- the value between its quotes
 

@@ -9,6 +9,7 @@ ghost use Rattle.xt_spec.specs.Tag.{Attribute, IsAttValue};
 ghost use Rattle.xt_spec.specs.Tree.{nil, before};
 ghost use Rattle.xt_scan.specs.Step.{take_while, drop_while};
 ghost use Rattle.xt_tree.specs.Meaning.{at_span, item_of, items_in};
+ghost use Rattle.xt_tree.specs.Items.{head_in, item_in};
 ghost use Rattle.xt_tree.specs.Places.{IsTagAt, AreInPlace, marks_in, marks_of};
 ghost use Rattle.xt_read.specs.References.{LacksByte, is_other, IsUpToSemicolon, AreSingles, HasParts, BeginsReference, HasNoParts, IsPastReference, IsUnquoted};
 ghost use Rattle.xt_read.specs.ContentTest.{HasValue, StandsIn, StandAll, AreSpelled, ArePlaced, GiveContent};
@@ -16,7 +17,7 @@ ghost use Rattle.xt_read.specs.ContentTest.{HasValue, StandsIn, StandAll, AreSpe
 use crate::bytes::bytes_at;
 use memchr::memchr;
 use xt_lex::{AttrSrc, Span, referenced_char};
-use xt_tree::{Src, Tag};
+use xt_tree::{Attrs, Head, Item, Row};
 
 /// How many bytes stand before the first such byte.
 fn len_before(byte: u8, bytes: &[u8]) -> usize
@@ -96,24 +97,26 @@ fn attribute_has_value(text: &str, attr: AttrSrc) -> bool
 }
 
 /// Whether each attribute has a value by itself.
-fn attributes_have_values(text: &str, attrs: &[AttrSrc]) -> bool
+fn attributes_have_values(text: &str, attrs: &Attrs<'_>) -> bool
     requires stand { (all : List Attribute) × StandAll text.now attrs.now all }
     ensures { (all : List Attribute) → StandAll text.now attrs.now all → (IsTrue result ↔ AllByRecursion HasValue all) }
 {
-    for attr in attrs {
-        if !attribute_has_value(text, *attr) {
+    let mut left = attrs.again();
+    while let Some((attr, rest)) = left.split() {
+        if !attribute_has_value(text, attr) {
             return false;
         }
+        left = rest;
     }
     true
 }
 
 /// Whether each attribute of a tag has a value by itself.
-fn tag_has_values(text: &str, head: &Tag) -> bool
-    requires tag { IsTagAt text.now head.now.span.from head.now }
-    ensures { (is : IsTagAt text.now head.now.span.from head.now) → (IsTrue result ↔ AllByRecursion HasValue is.tag.attributes) }
+fn tag_has_values(text: &str, head: &Head<'_>) -> bool
+    requires tag { IsTagAt text.now head.now.span.from (head_in head.now) }
+    ensures { (is : IsTagAt text.now head.now.span.from (head_in head.now)) → (IsTrue result ↔ AllByRecursion HasValue is.tag.attributes) }
 {
-    attributes_have_values(text, head.attrs.as_slice())
+    attributes_have_values(text, &head.attrs)
 }
 
 /// Whether what stands at the top of a document is its DOCTYPE.
@@ -125,37 +128,39 @@ fn is_doctype(gap: &[u8]) -> bool
 
 /// Whether the items give content by themselves.
 #[cycle(content)]
-fn items_have_content(items: &[Src], text: &str) -> bool
+fn items_have_content(items: &Row<'_>, text: &str) -> bool
     requires place { ArePlaced text.now (marks_of items.now) }
     requires spelled { AreSpelled (items_in text.now items.now) }
     ensures { IsTrue result ↔ GiveContent (items_in text.now items.now) }
 {
-    for item in items {
-        if !item_has_content(item, text) {
+    let mut left = items.again();
+    while let Some((item, rest)) = left.split() {
+        if !item_has_content(&item, text) {
             return false;
         }
+        left = rest;
     }
     true
 }
 
 #[cycle(content)]
-fn item_has_content(item: &Src, text: &str) -> bool
-    requires place { ArePlaced text.now (marks_in item.now) }
-    requires spelled { AreSpelled (before (item_of text.now item.now) nil) }
-    ensures { IsTrue result ↔ GiveContent (before (item_of text.now item.now) nil) }
+fn item_has_content(item: &Item<'_>, text: &str) -> bool
+    requires place { ArePlaced text.now (marks_in (item_in item.now)) }
+    requires spelled { AreSpelled (before (item_of text.now (item_in item.now)) nil) }
+    ensures { IsTrue result ↔ GiveContent (before (item_of text.now (item_in item.now)) nil) }
 {
     match item {
-        Src::Elem { head, kids, .. } => {
+        Item::Elem { head, kids, .. } => {
             if !tag_has_values(text, head) {
                 return false;
             }
-            items_have_content(kids.as_slice(), text)
+            items_have_content(kids, text)
         }
-        Src::Gap(span) => !is_doctype(bytes_at(text.as_bytes(), *span)),
-        Src::Ref(_) => false,
-        Src::Text(_) => true,
-        Src::Comment(_) => true,
-        Src::Pi(_) => true,
+        Item::Gap(span) => !is_doctype(bytes_at(text.as_bytes(), *span)),
+        Item::Ref(_) => false,
+        Item::Text(_) => true,
+        Item::Comment(_) => true,
+        Item::Pi(_) => true,
     }
 }
 
@@ -163,7 +168,7 @@ fn item_has_content(item: &Src, text: &str) -> bool
 /// references stands for a character.
 ///
 /// True of `<a n="&lt;">&#65;</a>`; false of `<!DOCTYPE a><a/>`, of `<a>&e;</a>` and of `<a n="&e;"/>`.
-pub fn has_content(text: &str, items: &[Src]) -> bool
+pub fn has_content(text: &str, items: &Row<'_>) -> bool
     requires reading { IsReading document text.now (items_in text.now items.now) }
     requires place { AreInPlace text.now 0 (marks_of items.now) (length text.now) }
     ensures value { IsTrue result ↔ ((content : Content) × HasContent (items_in text.now items.now) content) }

@@ -17,7 +17,7 @@ use sqlite_items::Items;
 use std::alloc::{AllocError, Global};
 use std::sync::ledger::Ledger;
 use xt_lex::{NotUtf8, Steps, text_of};
-use xt_tree::Src;
+use xt_tree::{Src, Tape};
 
 /// Counts each byte.
 pub(crate) fn count<L: Ledger>(bytes: &[u8], steps: &mut Steps<L>)
@@ -76,6 +76,16 @@ fn read_text_as(alloc: Global, text: &str, role: FileRole) -> Result<Items<Src>,
     }
 }
 
+/// The items of a reading, as they are kept.
+fn kept(items: Result<Items<Src>, Unread>) -> Result<Tape, Unread>
+    ensures value { result ≡ items }
+{
+    match items {
+        Ok(items) => Ok(Tape::of(items)),
+        Err(unread) => Err(unread),
+    }
+}
+
 /// The items of a file in its role.
 fn read_as(alloc: Global, bytes: &[u8], role: FileRole) -> Result<Items<Src>, Unread>
     requires fits { length bytes.now < 2 ^ 32 }
@@ -96,7 +106,7 @@ pub fn read_document<L: Ledger>(
     alloc: Global,
     bytes: &[u8],
     steps: &mut Steps<L>,
-) -> Result<Items<Src>, Unread>
+) -> Result<Tape, Unread>
     requires fits { length bytes.now < 2 ^ 32 }
     ensures value { IfOk result (λ items. IsReading document bytes.now (items_in bytes.now items)) }
     ensures place { IfOk result (λ items. AreInPlace bytes.now 0 (marks_of items) (length bytes.now)) }
@@ -104,7 +114,7 @@ pub fn read_document<L: Ledger>(
     ensures count { steps.new ≡ steps.old + length bytes.now }
 {
     count(bytes, steps);
-    read_as(alloc, bytes, FileRole::Document)
+    kept(read_as(alloc, bytes, FileRole::Document))
 }
 
 /// The items of an external parsed entity, with their places in its bytes, or its first fault.
@@ -114,7 +124,7 @@ pub fn read_entity<L: Ledger>(
     alloc: Global,
     bytes: &[u8],
     steps: &mut Steps<L>,
-) -> Result<Items<Src>, Unread>
+) -> Result<Tape, Unread>
     requires fits { length bytes.now < 2 ^ 32 }
     ensures value { IfOk result (λ items. IsReading entity bytes.now (items_in bytes.now items)) }
     ensures place { IfOk result (λ items. AreInPlace bytes.now 0 (marks_of items) (length bytes.now)) }
@@ -122,7 +132,7 @@ pub fn read_entity<L: Ledger>(
     ensures count { steps.new ≡ steps.old + length bytes.now }
 {
     count(bytes, steps);
-    read_as(alloc, bytes, FileRole::Entity)
+    kept(read_as(alloc, bytes, FileRole::Entity))
 }
 
 /// The items of a file that is included as a text, with their places in its bytes, or its first fault: a byte order mark,
@@ -133,7 +143,7 @@ pub fn read_text<L: Ledger>(
     alloc: Global,
     bytes: &[u8],
     steps: &mut Steps<L>,
-) -> Result<Items<Src>, Unread>
+) -> Result<Tape, Unread>
     requires fits { length bytes.now < 2 ^ 32 }
     ensures value { IfOk result (λ items. IsReading plain_text bytes.now (items_in bytes.now items)) }
     ensures place { IfOk result (λ items. AreInPlace bytes.now 0 (marks_of items) (length bytes.now)) }
@@ -141,5 +151,5 @@ pub fn read_text<L: Ledger>(
     ensures count { steps.new ≡ steps.old + length bytes.now }
 {
     count(bytes, steps);
-    read_as(alloc, bytes, FileRole::Text)
+    kept(read_as(alloc, bytes, FileRole::Text))
 }

@@ -11,7 +11,7 @@ use Rattle.xt_spec.specs.Reference.{is_decimal_digit, number_behind, AreDigits, 
 use Rattle.xt_spec.specs.Tag.{IsSpace, is_value_char, IsValuePart, IsAttValue, Attribute, IsAttribute, IsTag, IsEndTag}
 use Rattle.xt_spec.specs.Declaration.{Declaration, IsDeclarationOf}
 use Rattle.xt_spec.specs.Doctype.{is_pubid_char, IsSystemLiteral, IsPubidLiteral, IsExternalId, IsDoctype}
-use Rattle.xt_spec.specs.Markup.{lacks, IsCDataSection, IsComment, IsPiTarget, IsCommentOf}
+use Rattle.xt_spec.specs.Markup.{lacks, IsCDataSection, IsComment, IsPiTarget, IsPiOf, IsCommentOf}
 use Rattle.xt_spec.specs.Token.{Spells, start_tag, empty_tag, end_tag, char_data, HoldsNoClose, MayStand}
 use Rattle.xt_spec.specs.Tree.{Items, nil, element, leaf, text_item, reference_item, comment_item, pi_item, gap, leaf_item, source_text}
 use Rattle.xt_spec.specs.Reading.{are_distinct, mark, document, entity, fragment, Closes, IsElementAt, IsOneText, IsReading}
@@ -24,7 +24,7 @@ use Rattle.xt_spec.specs.LineEnds.{lines_read}
 use Rattle.xt_spec.specs.Text.{TextPart, data_part, reference_part, section_part, parts_text, parts_value_in, HasTextValue, is_void}
 use Rattle.xt_spec.specs.Value.{ValuePart, characters_part, character_part, value_parts_text, value_of_parts, AreValueParts, HasAttributeValue, tokenized}
 use Rattle.xt_spec.specs.Namespace.{NamedValue, Binding, xml_namespace, xmlns_namespace, prefix_of, local_of, declared_prefix, is_allowed, xml_scope, scope_of, Expanded, expanded_name}
-use Rattle.xt_spec.specs.Content.{Content, nothing_given, element_content, text_content, IsPiOf, typed, HasContent}
+use Rattle.xt_spec.specs.Content.{Content, nothing_given, element_content, text_content, typed, HasContent}
 
 -- a `]` is a reference at the end, and an LF in front
 ends_in_a_bracket : escape_text (codes "a]") ≡ codes "a&#93;"
@@ -694,7 +694,7 @@ some_document (element open_tag kids close rest) is joined =
     let none : open_tag ≡ [] = nothing_first open_tag _ (nothing_first _ _ (nothing_first _ _ joined)) in
     let wrong = sym none ∙ is.1.element.spelled in cc
 some_document (leaf comment_item text rest) is joined = let wrong = sym (nothing_first text _ joined) ∙ is.0.3 in cc
-some_document (leaf pi_item text rest) is joined = let wrong = sym (nothing_first text _ joined) ∙ is.0.4 in cc
+some_document (leaf pi_item text rest) is joined = let wrong = sym (nothing_first text _ joined) ∙ is.0.4.spelled in cc
 some_document (leaf gap text rest) (inl (first, doctype, others)) joined = let wrong = sym (nothing_first text _ joined) ∙ doctype.spelled in cc
 some_document (leaf gap text rest) (inr (space, apart, others)) joined = space.1 (nothing_first text _ joined)
 some_document (leaf text_item text rest) is joined = is

@@ -4,12 +4,10 @@
 -- Here: of a document that needs no declaration, so each reference stands for a character, and there is no DOCTYPE.
 --
 --   Content      elements with what they hold, texts, comments and processing instructions
---   IsPiOf       the text is a processing instruction of this target and these data
 --   HasContent   the items give this content
-use Rattle.std.specs.Prelude.{◌≡◌, ℕ, Bool, false, List, [], ◌∷◌, ◌++◌, codes, bytes_eq, if◌then◌else◌}
-use Rattle.xt_spec.specs.Char.{is_space}
-use Rattle.xt_spec.specs.Tag.{Attribute, Tag, IsTag, tag_text, IsBlank}
-use Rattle.xt_spec.specs.Markup.{begins, IsPiTarget, IsCommentOf}
+use Rattle.std.specs.Prelude.{◌≡◌, ℕ, false, List, [], ◌∷◌, codes, bytes_eq, if◌then◌else◌}
+use Rattle.xt_spec.specs.Tag.{Attribute, Tag, IsTag, tag_text}
+use Rattle.xt_spec.specs.Markup.{begins, IsPiOf, IsCommentOf}
 use Rattle.xt_spec.specs.Tree.{Items, nil, element, leaf, text_item, reference_item, comment_item, pi_item, gap}
 use Rattle.xt_spec.specs.LineEnds.{lines_read}
 use Rattle.xt_spec.specs.Text.{HasTextValue}
@@ -24,19 +22,6 @@ pub data Content : Type 0 where
   text_content : (value : List ℕ) → Content → Content
   comment_content : (inner : List ℕ) → Content → Content
   pi_content : (target inner : List ℕ) → Content → Content
-
-abbrev pub begins_blank : List ℕ → Bool
-begins_blank [] = false
-begins_blank (b ∷ bytes) = is_space b
-
--- [16] PI, as written: the data begin behind all the white space that follows the target
-pub record IsPiOf (text target inner : List ℕ) : Type 0 where
-  pub space : List ℕ
-  pub is_target : IsPiTarget target
-  pub is_space : IsBlank space
-  pub apart : space ≡ [] → inner ≡ []
-  pub begins : begins_blank inner ≡ false
-  pub spelled : text ≡ codes "<?" ++ target ++ space ++ inner ++ codes "?>"
 
 -- `xml:id` is of type ID, any other attribute of type CDATA
 abbrev pub typed : List ℕ → List ℕ → List ℕ

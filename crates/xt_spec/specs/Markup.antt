@@ -6,13 +6,13 @@
 --   AreChars         any number of [2] Char
 --   IsSectionOf      [18] CDSect of these characters; IsCDataSection: of some
 --   IsCommentOf      [15] Comment of these characters; IsComment: of some that it may hold
---   IsPi             [16] PI
-use Rattle.std.specs.Prelude.{◌≡◌, ◌⊎◌, ℕ, Bool, true, false, not, ◌&&◌, ◌==◌, IsTrue, List, [], ◌∷◌, ◌++◌, codes}
+--   IsPiOf           [16] PI of this target and these data; IsPi: of some that it may hold
+use Rattle.std.specs.Prelude.{◌≡◌, ℕ, Bool, true, false, not, ◌&&◌, ◌==◌, IsTrue, List, [], ◌∷◌, ◌++◌, codes}
 use Rattle.std.specs.List.{list_all}
 use Rattle.std.specs.Str.{str_eq_ignore_ascii_case}
-use Rattle.xt_spec.specs.Char.{is_char}
+use Rattle.xt_spec.specs.Char.{is_char, is_space}
 use Rattle.xt_spec.specs.Name.{IsSpeltBy, IsNCName}
-use Rattle.xt_spec.specs.Tag.{IsSpace}
+use Rattle.xt_spec.specs.Tag.{IsBlank}
 
 -- the text begins with the needle
 abbrev pub begins : List ℕ → List ℕ → Bool
@@ -53,11 +53,19 @@ is_reserved target = str_eq_ignore_ascii_case target (codes "xml")
 abbrev pub IsPiTarget : List ℕ → Type 0
 IsPiTarget target = IsNCName target × (is_reserved target ≡ false)
 
--- what stands behind the target of a PI: nothing, or white space and any number of Chars without `?>`
-abbrev pub IsPiData : List ℕ → Type 0
-IsPiData text = (text ≡ [])
-    ⊎ ((space inner : List ℕ) × IsSpace space × AreChars inner × IsTrue (lacks (codes "?>") inner) × (text ≡ space ++ inner))
+abbrev pub begins_blank : List ℕ → Bool
+begins_blank [] = false
+begins_blank (b ∷ bytes) = is_space b
 
--- [16] PI
+-- [16] PI of this target and these data, as written: the data begin behind all the white space that follows the target
+pub record IsPiOf (text target inner : List ℕ) : Type 0 where
+  pub space : List ℕ
+  pub is_target : IsPiTarget target
+  pub is_space : IsBlank space
+  pub apart : space ≡ [] → inner ≡ []
+  pub begins : begins_blank inner ≡ false
+  pub spelled : text ≡ codes "<?" ++ target ++ space ++ inner ++ codes "?>"
+
+-- [16] PI: the data are any number of Chars without `?>`
 abbrev pub IsPi : List ℕ → Type 0
-IsPi text = (target inner : List ℕ) × IsPiTarget target × IsPiData inner × (text ≡ codes "<?" ++ target ++ inner ++ codes "?>")
+IsPi text = (target inner : List ℕ) × AreChars inner × IsTrue (lacks (codes "?>") inner) × IsPiOf text target inner

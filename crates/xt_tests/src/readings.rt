@@ -4,14 +4,13 @@
 
 ghost use Rattle.std.specs.Prelude.{◌≡◌};
 
-use sqlite_items::Items;
 use std::alloc::Global;
 use std::marker::Brand;
 use std::sync::ledger::{Blank, Ledger};
 use std::test::Fail;
 use xt_lex::{Span, Steps, text_of};
 use xt_read::{Unread, has_content, read_document, read_entity, read_text};
-use xt_tree::Src;
+use xt_tree::{Item, Row, Tape};
 
 /// The most bytes of a file here.
 const MOST_BYTES: usize = 10_000;
@@ -24,38 +23,40 @@ fn add_span(alloc: Global, out: &mut String, kind: &str, span: Span) -> Result<(
 }
 
 #[cycle(listing)]
-fn add_items(alloc: Global, out: &mut String, items: &[Src]) -> Result<(), Fail> {
-    for item in items {
-        add_item(alloc, out, item)?;
+fn add_items(alloc: Global, out: &mut String, items: &Row<'_>) -> Result<(), Fail> {
+    let mut left = items.again();
+    while let Some((item, rest)) = left.split() {
+        add_item(alloc, out, &item)?;
+        left = rest;
     }
     Ok(())
 }
 
 #[cycle(listing)]
-fn add_item(alloc: Global, out: &mut String, item: &Src) -> Result<(), Fail> {
+fn add_item(alloc: Global, out: &mut String, item: &Item<'_>) -> Result<(), Fail> {
     match item {
-        Src::Elem { head, kids, tail } => {
+        Item::Elem { head, kids, tail } => {
             let kind = if head.empty { "empty" } else { "start" };
             add_span(alloc, out, kind, head.span)?;
-            add_items(alloc, out, kids.as_slice())?;
+            add_items(alloc, out, kids)?;
             match tail {
                 Some(span) => add_span(alloc, out, "end", *span),
                 None => Ok(()),
             }
         }
-        Src::Text(span) => add_span(alloc, out, "text", *span),
-        Src::Ref(span) => add_span(alloc, out, "ref", *span),
-        Src::Comment(span) => add_span(alloc, out, "comment", *span),
-        Src::Pi(span) => add_span(alloc, out, "pi", *span),
-        Src::Gap(span) => add_span(alloc, out, "gap", *span),
+        Item::Text(span) => add_span(alloc, out, "text", *span),
+        Item::Ref(span) => add_span(alloc, out, "ref", *span),
+        Item::Comment(span) => add_span(alloc, out, "comment", *span),
+        Item::Pi(span) => add_span(alloc, out, "pi", *span),
+        Item::Gap(span) => add_span(alloc, out, "gap", *span),
     }
 }
 
 /// The items, or the fault.
-fn told(alloc: Global, answer: Result<Items<Src>, Unread>) -> Result<String, Fail> {
+fn told(alloc: Global, answer: Result<Tape, Unread>) -> Result<String, Fail> {
     let mut out = String::new(alloc);
     match answer {
-        Ok(items) => add_items(alloc, &mut out, items.as_slice())?,
+        Ok(tape) => add_items(alloc, &mut out, &tape.items())?,
         Err(Unread::NotUtf8 { at }) => {
             out.push_str(format!(in alloc; "not utf8 {at}")?.as_str())?;
         }
@@ -132,11 +133,11 @@ fn content_over<L: Ledger>(alloc: Global, bytes: &[u8], blank: Blank) -> Result<
     if bytes.len() > MOST_BYTES {
         return Ok(None);
     }
-    let Ok(items) = read_document(alloc, bytes, &mut steps) else {
+    let Ok(tape) = read_document(alloc, bytes, &mut steps) else {
         return Ok(None);
     };
     match text_of(bytes) {
-        Ok(text) => Ok(Some(has_content(text, items.as_slice()))),
+        Ok(text) => Ok(Some(has_content(text, &tape.items()))),
         Err(_) => Ok(None),
     }
 }

@@ -5,20 +5,19 @@ ghost use Rattle.xt_tree.specs.Places.{marks_of, AreInPlace};
 ghost use Rattle.ed_text.specs.TextPlace.{IsTextAt};
 
 use ed_text::{is_text_at, text_patch};
-use sqlite_items::Items;
 use std::alloc::Global;
 use std::marker::Brand;
 use std::sync::ledger::{Blank, Ledger};
 use std::test::Fail;
-use xt_lex::{Span, Steps};
+use xt_lex::Steps;
 use xt_read::{read_document, read_text};
-use xt_tree::{Src, splice};
+use xt_tree::{Row, splice};
 
 /// The file with this value at the path; as it is, where no text is there.
 fn with_text(
     alloc: Global,
     file: &[u8],
-    items: &[Src],
+    items: &Row<'_>,
     path: &[u32],
     value: &str,
     plain: bool,
@@ -46,8 +45,8 @@ fn edited_over<L: Ledger>(
     requires some { L.parts ≡ 1 }
 {
     let mut steps = Steps::<L>::new(blank);
-    let items = read_document(alloc, file, &mut steps)?;
-    with_text(alloc, file, items.as_slice(), path, value.as_str(), false)
+    let tape = read_document(alloc, file, &mut steps)?;
+    with_text(alloc, file, &tape.items(), path, value.as_str(), false)
 }
 
 /// The document with this value at the path.
@@ -57,16 +56,6 @@ fn edited(alloc: Global, file: &str, path: &[u32], value: &str) -> Result<Vec<u8
     let value = String::from_str(alloc, value)?;
     let blank = Blank::new(1);
     edited_over::<Brand>(alloc, file.as_bytes(), path, &value, blank)
-}
-
-/// A file that is read as text, with this value.
-fn edited_text(alloc: Global, file: &[u8], value: &str) -> Result<Vec<u8>, Fail>
-    requires fits { length file.now < 2 ^ 32 }
-{
-    let to = file.len() as u32;
-    let mut items = Items::new(alloc);
-    items.push(Src::Text(Span { from: 0, to }))?;
-    with_text(alloc, file, items.as_slice(), &[0], value, true)
 }
 
 #[test]
@@ -119,7 +108,7 @@ fn a_whole_document_has_a_new_value(rt: HostRuntime) -> Result<(), Fail> {
 #[test]
 fn a_file_of_text_has_its_value_as_it_is(rt: HostRuntime) -> Result<(), Fail> {
     for value in ["a&b", "", "]"] {
-        let bytes = edited_text(rt.alloc(), b"a<b", value)?;
+        let bytes = text_file(rt.alloc(), b"a<b", &[0], value)?;
         assert_eq!(rt; bytes.as_slice(), value.as_bytes());
     }
     Ok(())
@@ -143,8 +132,8 @@ fn text_file_over<L: Ledger>(
     if file.len() > MOST_BYTES {
         return Ok(Vec::new(alloc));
     }
-    let items = read_text(alloc, file, &mut steps)?;
-    with_text(alloc, file, items.as_slice(), path, value.as_str(), true)
+    let tape = read_text(alloc, file, &mut steps)?;
+    with_text(alloc, file, &tape.items(), path, value.as_str(), true)
 }
 
 /// The file that is read as a text, with this value at the path.
@@ -168,8 +157,8 @@ fn has_text_over<L: Ledger>(
     if file.len() > MOST_BYTES {
         return Ok(false);
     }
-    let items = read_text(alloc, file, &mut steps)?;
-    Ok(is_text_at(items.as_slice(), path))
+    let tape = read_text(alloc, file, &mut steps)?;
+    Ok(is_text_at(&tape.items(), path))
 }
 
 /// Whether the file, read as a text, has one at the path.

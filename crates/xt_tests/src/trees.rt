@@ -1,49 +1,54 @@
-//! The items of a small file, by hand.
-use sqlite_items::Items;
+//! The items of a small file by their paths, and bytes in place of others.
+ghost use Rattle.std.specs.Prelude.{◌≡◌, ◌<◌, ◌^◌, length};
+
 use std::alloc::Global;
+use std::marker::Brand;
+use std::sync::ledger::{Blank, Ledger};
 use std::test::Fail;
-use xt_lex::Span;
-use xt_table::Seq;
-use xt_tree::{Patch, Src, Tag, item_at, span_at, splice};
+use xt_lex::{Span, Steps};
+use xt_read::read_document;
+use xt_tree::{Patch, item_at, span_at, splice};
 
 const TEXT: &str = "<a>x<b/>y</a>";
 
-fn span(from: u32, to: u32) -> Span {
-    Span { from, to }
+/// What is found at a path: the span of the item, and whether there is one.
+#[derive(Drop)]
+struct AtPath {
+    span: Option<Span>,
+    is_item: bool,
 }
 
-fn tag(alloc: Global, whole: Span, name: Span, empty: bool) -> Tag {
-    Tag {
-        name,
-        attrs: Seq::from_vec(Vec::new(alloc)),
-        span: whole,
-        empty,
-    }
+fn found_over<L: Ledger>(
+    alloc: Global,
+    file: &[u8],
+    path: &[u32],
+    blank: Blank,
+) -> Result<AtPath, Fail>
+    requires fits { length file.now < 2 ^ 32 }
+    requires name { blank.name ≡ L.name }
+    requires parts { blank.parts ≡ L.parts }
+    requires some { L.parts ≡ 1 }
+{
+    let mut steps = Steps::<L>::new(blank);
+    let tape = read_document(alloc, file, &mut steps)?;
+    let row = tape.items();
+    Ok(AtPath {
+        span: span_at(&row, path),
+        is_item: item_at(&row, path).is_some(),
+    })
 }
 
-/// What `TEXT` reads as.
-fn items(alloc: Global) -> Result<Items<Src>, Fail> {
-    let mut kids = Items::new(alloc);
-    kids.push(Src::Text(span(3, 4)))?;
-    kids.push(Src::Elem {
-        head: tag(alloc, span(4, 8), span(5, 6), true),
-        kids: Items::new(alloc),
-        tail: None,
-    })?;
-    kids.push(Src::Text(span(8, 9)))?;
-    let mut items = Items::new(alloc);
-    items.push(Src::Elem {
-        head: tag(alloc, span(0, 3), span(1, 2), false),
-        kids,
-        tail: Some(span(9, 13)),
-    })?;
-    Ok(items)
+/// What is found at a path in the document.
+fn found(alloc: Global, file: &str, path: &[u32]) -> Result<AtPath, Fail>
+    requires fits { length file.now < 2 ^ 32 }
+{
+    let blank = Blank::new(1);
+    found_over::<Brand>(alloc, file.as_bytes(), path, blank)
 }
 
 #[test]
 fn a_path_leads_to_an_item_and_its_span(rt: HostRuntime) -> Result<(), Fail> {
-    let items = items(rt.alloc())?;
-    for (path, found) in [
+    for (path, span) in [
         ([0, 0].as_slice(), Some((3, 4))),
         ([0, 1].as_slice(), Some((4, 8))),
         ([0, 2].as_slice(), Some((8, 9))),
@@ -54,9 +59,9 @@ fn a_path_leads_to_an_item_and_its_span(rt: HostRuntime) -> Result<(), Fail> {
         ([0, 0, 0].as_slice(), None),
         ([0, 1, 0].as_slice(), None),
     ] {
-        let spans = span_at(items.as_slice(), path).map(|s| (s.from, s.to));
-        assert_eq!(rt; spans, found, "at {path:?}");
-        assert_eq!(rt; item_at(items.as_slice(), path).is_some(), found.is_some());
+        let found = found(rt.alloc(), TEXT, path)?;
+        assert_eq!(rt; found.span.map(|s| (s.from, s.to)), span, "at {path:?}");
+        assert_eq!(rt; found.is_item, span.is_some());
     }
     Ok(())
 }

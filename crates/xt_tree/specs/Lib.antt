@@ -1,3 +1,4 @@
+pub mod Items
 pub mod Meaning
 pub mod Patches
 pub mod Places

@@ -4,10 +4,16 @@
 //! `specs/Spans.antt`. Whether the bytes read so is not asked here (`xt_read`). `splice` alone takes memory.
 #![tactic(auto)]
 
+mod attrs;
 mod patch;
 mod path;
+mod row;
 mod source;
+mod tape;
 
+pub use attrs::Attrs;
 pub use patch::{Patch, splice};
 pub use path::{item_at, span_at};
+pub use row::{Head, Item, Row};
 pub use source::{Src, Tag};
+pub use tape::Tape;

@@ -7,8 +7,8 @@ use Rattle.xt_spec.specs.Tree.{Items, nil, element, leaf, text_item, reference_i
 use Rattle.xt_spec.specs.LineEnds.{lines_read}
 use Rattle.xt_spec.specs.Reading.{tag_ending}
 use Rattle.xt_spec.specs.Namespace.{NamedValue}
-use Rattle.xt_spec.specs.Content.{Content, element_content, text_content, comment_content, pi_content, IsPiOf, typed, HaveValues, HasContent}
-use Rattle.xt_spec.specs.Markup.{IsCommentOf}
+use Rattle.xt_spec.specs.Content.{Content, element_content, text_content, comment_content, pi_content, typed, HaveValues, HasContent}
+use Rattle.xt_spec.specs.Markup.{IsCommentOf, IsPiOf}
 use Rattle.xt_lex.specs.Place.{EndsTag}
 use Rattle.xt_lex.proofs.Theorems.{tag_unique, drop_while_append}
 use Rattle.xt_value.specs.Parts.{IsCut}

@@ -5,7 +5,7 @@ use Rattle.std.specs.List.{list_all}
 use Rattle.xt_spec.specs.Char.{is_space}
 use Rattle.xt_spec.specs.Name.{IsNCName}
 use Rattle.xt_spec.specs.Tag.{IsBlank}
-use Rattle.xt_spec.specs.Content.{IsPiOf, begins_blank}
+use Rattle.xt_spec.specs.Markup.{begins_blank, IsPiOf}
 use Rattle.xt_lex.specs.NameTest.{is_name_byte}
 use Rattle.xt_scan.specs.Step.{drop_while}
 use Rattle.xt_lex.proofs.Theorems.{ncname_passes, drop_while_append, space_no_name}

@@ -1,8 +1,7 @@
 //! What comments and processing instructions hold. XML 1.0 (Fifth Edition), sections 2.5, 2.6 and 2.11.
 ghost use Rattle.std.specs.Prelude.{◌≡◌, List, ℕ, IfOk, string_bytes};
 ghost use Rattle.xt_spec.specs.LineEnds.{lines_read};
-ghost use Rattle.xt_spec.specs.Content.{IsPiOf};
-ghost use Rattle.xt_spec.specs.Markup.{IsCommentOf};
+ghost use Rattle.xt_spec.specs.Markup.{IsCommentOf, IsPiOf};
 
 use crate::cuts::{behind_space, between, split_space};
 use crate::lines::read_lines;

@@ -1,5 +1,6 @@
 //! What a save can't write is found before its marker: each file is opened, and each folder that needs a new one is tried.
-ghost use Rattle.std.specs.Prelude.{◌≡◌, IfOk};
+ghost use Rattle.std.specs.Prelude.{◌≡◌, IfOk, IfErr};
+ghost use Rattle.std.specs.IoError.{error_kind};
 ghost use Rattle.jr_form.specs.Reading.{reading};
 ghost use Rattle.book_cli.specs.RealFiles.{items_read};
 
@@ -13,9 +14,10 @@ use std::io::{self, ErrorKind};
 /// The name of a file that tries whether a folder takes a new one. That in the current folder stands as long as others may.
 const TRIAL: &str = ".burst-new";
 
-/// The items of a journal; none where it has no reading.
+/// The items of a journal; none where it has no reading. Want of memory is the one error.
 pub(super) fn items_of(alloc: Global, journal: &[u8]) -> io::Result<Vec<Item>>
     ensures value { IfOk result (λ items. items.items ≡ items_read (reading journal.now)) }
+    ensures fault { IfErr result (λ e. error_kind e ≡ ErrorKind.OutOfMemory) }
 {
     match read_journal(alloc, journal)? {
         Some(items) => Ok(items),

@@ -1,5 +1,6 @@
 //! A file that is whole to everyone: what is written stands beside it first, and takes its name when it is on the disk.
-ghost use Rattle.std.specs.Prelude.{◌≡◌, ◌↔◌, false, IfOk, IsErr, bit_and, string_bytes};
+ghost use Rattle.std.specs.Prelude.{◌≡◌, ◌⊎◌, ◌↔◌, false, IsTrue, IfOk, IsErr, bit_and, string_bytes};
+ghost use Rattle.std.specs.IoError.{error_kind};
 ghost use Rattle.std.specs.Fs.{metadata_mode};
 ghost use Rattle.bk_name.specs.FileName.{is_file_name};
 ghost use Rattle.book_cli.specs.RealFiles.{new_in, new_below};
@@ -45,7 +46,10 @@ pub(super) fn check_writable(found: &Metadata) -> io::Result<()>
 }
 
 /// Whether a folder does not take a new file, or a new file not this name.
-fn is_refusal(error: &io::Error) -> bool {
+fn is_refusal(error: &io::Error) -> bool
+    ensures exact { IsTrue result ↔ (error_kind error.now ≡ ErrorKind.PermissionDenied) ⊎ ((error_kind error.now ≡ ErrorKind.ReadOnlyFilesystem) ⊎ ((error_kind error.now ≡ ErrorKind.InvalidFilename)
+        ⊎ ((error_kind error.now ≡ ErrorKind.ResourceBusy) ⊎ ((error_kind error.now ≡ ErrorKind.CrossesDevices) ⊎ (error_kind error.now ≡ ErrorKind.Unsupported))))) }
+{
     matches!(
         error.kind(),
         ErrorKind::PermissionDenied

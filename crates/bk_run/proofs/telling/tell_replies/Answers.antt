@@ -1,7 +1,8 @@
-use Rattle.std.proofs.Common.{◌≡◌, ◌∙◌, ◌||◌, Bool, arith, ap, sym}
+use Rattle.std.proofs.Common.{◌≡◌, ◌∙◌, ◌||◌, ◌+◌, Bool, arith, ap, refl, sym}
 use Rattle.bk_desk.proofs.Theorems.{started, faultless_started, faultless_joined}
 use Rattle.bk_run.specs.Stops.{IsOfOneBurst}
-use Rattle.bk_run.proofs.TellingLemmas.{none_yet, stop_at_start, more_told, all_told, does_asked, one_prefix, prefix_all, one_crash}
+use Rattle.bk_run.proofs.CountLemmas.{err_no_ok, more_counted, ended_counted, all_counted}
+use Rattle.bk_run.proofs.TellingLemmas.{asked_all, none_yet, stop_at_start, more_told, all_told, does_asked, one_prefix, prefix_all, one_crash}
 use Rattle.bk_run.proofs.telling.tell_replies.Goals as goal
 use Rattle.bk_run.proofs.telling.tell_replies.Goals.{then-refused, else-refused}
 
@@ -16,6 +17,7 @@ loop-command-init g c = record {
   faults = omega arith;
   later = omega arith;
   counted = omega arith;
+  exact = λ h s last steps stands does. omega arith;
 }
 
 pub returns-in_err-one-clause-prefix : goal.returns-in_err-one-clause-prefix
@@ -48,6 +50,9 @@ loop-command-preserved g c = record {
   faults = omega (arith, c.loop-command.invariant.faults, c.answer.ensures.cause_desk.later);
   later = omega (arith, c.loop-command.invariant.later, c.answer.ensures.count.0);
   counted = omega (arith, c.loop-command.invariant.counted, c.answer.ensures.count.1);
+  exact = λ h s last steps stands does.
+      (more_counted c.args.session.now.root s last c.args.commands.now c.loop-command.command-index c.command-item.result c.loop-command.session (g.D.Desk.standing c.args.desk.now) (g.D.Desk.standing c.loop-command.desk) c.loop-command.refused steps
+      _ c.args.steps.now c.loop-command.steps c.answer.new.steps c.loop-command-test.true c.command-item.is (c.loop-command.invariant.told h s stands) does (c.loop-command.invariant.exact h s last steps stands does) (c.in_ok-one.ensures.exact h)).exact refl;
 }
 
 pub returns-clause-value : goal.returns-clause-value
@@ -62,3 +67,15 @@ returns-clause-prefix g c = λ h s last asked replies stands are does.
 pub returns-clause-crash : goal.returns-clause-crash
 returns-clause-crash g c = λ h s last asked replies more stands are does.
     c.loop-command.invariant.crash h s last replies more stands (does_asked c.args.session.now.root s last c.args.commands.now asked replies are does)
+
+pub returns-in_err-one-clause-exact : goal.returns-in_err-one-clause-exact
+returns-in_err-one-clause-exact g c = λ h s last asked replies stands are does.
+    let all = does_asked c.args.session.now.root s last c.args.commands.now asked replies are does in
+    ended_counted c.args.session.now.root c.args.commands.now asked (c.loop-command.command-index + 1) replies _ _ c.args.steps.now c.answer.new.steps (err_no_ok c.from_residual.result c.from_residual.ensures.0) (asked_all c.args.commands.now asked are)
+    (more_counted c.args.session.now.root s last c.args.commands.now c.loop-command.command-index c.command-item.result c.loop-command.session (g.D.Desk.standing c.args.desk.now) (g.D.Desk.standing c.loop-command.desk) c.loop-command.refused replies
+    _ c.args.steps.now c.loop-command.steps c.answer.new.steps c.loop-command-test.true c.command-item.is (c.loop-command.invariant.told h s stands) all (c.loop-command.invariant.exact h s last replies stands all) (c.answer.ensures.exact h))
+
+pub returns-clause-exact : goal.returns-clause-exact
+returns-clause-exact g c = λ h s last asked replies stands are does.
+    all_counted c.args.session.now.root c.args.commands.now asked c.loop-command.command-index replies _ c.args.steps.now c.loop-command.steps c.loop-command-test.false (asked_all c.args.commands.now asked are)
+    (c.loop-command.invariant.exact h s last replies stands (does_asked c.args.session.now.root s last c.args.commands.now asked replies are does))

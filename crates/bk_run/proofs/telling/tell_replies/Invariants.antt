@@ -1,4 +1,4 @@
-use Rattle.std.proofs.Common.{ℕ, List, ◌≤◌, ◌+◌, ◌*◌, map, take}
+use Rattle.std.proofs.Common.{◌≡◌, ℕ, List, ◌≤◌, ◌+◌, ◌*◌, map, take}
 use Rattle.std.specs.Prelude.{IsTrue}
 use Rattle.xt_spec.specs.Limit.{most_file_bytes}
 use Rattle.bk_desk.specs.CrashPoints.{AtEachCrash}
@@ -6,6 +6,7 @@ use Rattle.bk_desk.specs.Cause.{StaysFaultless}
 use Rattle.jr_burst.specs.Commit.{IsClosed}
 use Rattle.ed_spec.specs.Session.{Session, Step, DoesAll}
 use Rattle.bk_run.specs.Stops.{IsOfOneBurst}
+use Rattle.bk_run.specs.Counts.{all_steps}
 use Rattle.bk_run.specs.Doing.{asked_of, Stands}
 use Rattle.bk_run.specs.Telling.{AreTold}
 use Rattle.bk_run.proofs.telling.tell_replies.Given as goal
@@ -20,4 +21,6 @@ invariant-loop-command g l = record {
   faults : g.D.Desk.faults l.fn.desk ≤ g.D.Desk.faults l.desk;
   later : l.fn.steps ≤ l.steps;
   counted : l.steps ≤ l.fn.steps + l.command-index * most_file_bytes;
+  exact : IsTrue g.D.Desk.tells → (s last : Session) (steps : List Step) → Stands l.fn.session (g.D.Desk.standing l.fn.desk) s → DoesAll l.fn.session.root s (map asked_of l.commands) steps last
+      → l.steps ≡ l.fn.steps + all_steps l.fn.session.root (map asked_of (take l.command-index l.commands)) steps;
 }

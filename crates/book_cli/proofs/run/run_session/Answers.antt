@@ -5,6 +5,7 @@ use Rattle.ed_spec.specs.Session.{opened}
 use Rattle.bk_run.specs.Doing.{asked_of}
 use Rattle.bk_run.proofs.Theorems.{start_stands, asks_all}
 use Rattle.book_cli.proofs.SessionLemmas.{replies_of, session_failed, session_ended, root_there, tree_there}
+use Rattle.book_cli.proofs.RunLemmas.{not_over}
 use Rattle.book_cli.proofs.run.run_session.Goals as goal
 
 pub returns-in-Ok-clause-output : goal.returns-in-Ok-clause-output
@@ -49,3 +50,21 @@ returns-clause-output g c = λ h start is.
     session_failed k.root commands old (g.D.Desk.standing c.tell_replies.new.desk) (AtEachCrash g.D.Desk.time g.D.Desk.was c.args.desk.now c.tell_replies.new.desk) 7 r (inr refl)
     (c.tell_replies.ensures.prefix h s r.last asked r.steps stands (asks_all commands) r.does)
     (c.tell_replies.ensures.crash h s r.last asked r.steps r.tree stands (asks_all commands) r.does)
+
+pub returns-in-Ok-clause-exact : goal.returns-in-Ok-clause-exact
+returns-in-Ok-clause-exact g c = λ h start asked replies last is asks does.
+    let k = c.args.session in
+    let takes = c.in-Ok.ensures.exact h (opened k.root (book_files (g.D.Desk.standing c.args.desk.now).files)) last asked replies (start_stands k.root start (g.D.Desk.standing c.args.desk.now) k is) asks does in
+    record { most = takes.most; exact = λ ends. takes.exact refl }
+
+pub returns-in-Err-Fault-clause-exact : goal.returns-in-Err-Fault-clause-exact
+returns-in-Err-Fault-clause-exact g c = λ h start asked replies last is asks does.
+    let k = c.args.session in
+    let takes = c.tell_replies.ensures.exact h (opened k.root (book_files (g.D.Desk.standing c.args.desk.now).files)) last asked replies (start_stands k.root start (g.D.Desk.standing c.args.desk.now) k is) asks does in
+    record { most = takes.most; exact = λ ends. absurd (not_over 6 (inl refl) ends) }
+
+pub returns-clause-exact : goal.returns-clause-exact
+returns-clause-exact g c = λ h start asked replies last is asks does.
+    let k = c.args.session in
+    let takes = c.tell_replies.ensures.exact h (opened k.root (book_files (g.D.Desk.standing c.args.desk.now).files)) last asked replies (start_stands k.root start (g.D.Desk.standing c.args.desk.now) k is) asks does in
+    record { most = takes.most; exact = λ ends. absurd (not_over 7 (inr refl) ends) }

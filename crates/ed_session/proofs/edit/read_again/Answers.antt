@@ -9,4 +9,4 @@ unreachable-requires g c =
 
 pub returns-in-Ok-clause-value : goal.returns-in-Ok-clause-value
 returns-in-Ok-clause-value g c root items opens =
-    opens_read root c.args.bytes.now items (items_in c.args.bytes.now c.in-Ok.items) opens c.in-Ok.ensures.value
+    opens_read root c.args.bytes.now items (items_in c.args.bytes.now c.in-Ok.tape) opens c.in-Ok.ensures.value

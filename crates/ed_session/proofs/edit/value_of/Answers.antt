@@ -1,4 +1,4 @@
-use Rattle.ed_text.proofs.Theorems.{text_item_utf8}
+use Rattle.xt_read.proofs.Theorems.{text_item_utf8}
 use Rattle.ed_session.proofs.edit.value_of.Goals as goal
 
 pub unreachable-requires : goal.unreachable-requires

@@ -1,19 +1,19 @@
-use Rattle.std.proofs.Common.{◌∙◌, ℕ, List, length, ap}
+use Rattle.std.proofs.Common.{◌∙◌, ℕ, List, length, ap, arith}
 use Rattle.std.proofs.lemmas.Result.{IfOk-weaker, IfErr-weaker}
 use Rattle.xt_spec.specs.Reading.{document}
 use Rattle.xt_tree.specs.Meaning.{items_in}
-use Rattle.xt_tree.specs.Places.{marks_of}
 use Rattle.bk_spec.specs.Node.{owned}
 use Rattle.bk_spec.specs.NodePaths.{node_paths}
 use Rattle.bk_info.specs.Address.{Address}
+use Rattle.xt_read.proofs.Theorems.{reading_spelled}
 use Rattle.ent_doc.specs.Opening.{open_fault}
 use Rattle.ent_doc.proofs.DocumentLemmas.{document_gives, document_fails}
-use Rattle.ent_doc.proofs.ItemLemmas.{tags_in_place}
 use Rattle.ent_doc.proofs.document.document_nodes.Goals as goal
 
 pub nodes_of-requires : goal.nodes_of-requires
 nodes_of-requires c = record {
-  tags = tags_in_place c.args.text.now (marks_of c.args.items.now) 0 (length c.args.text.now) c.requires.place;
+  tags = record { from = 0; to = length c.args.text.now; placed = c.requires.place; within = omega arith };
+  spelled = reading_spelled c.args.text.now (items_in c.args.text.now c.args.items.now) c.requires.reading;
   owned = ap (λ (a : Address). a.origin) c.in_ok-siblings.ensures.value ∙ c.in_ok-origin.ensures.value ∙ ap (λ (f : List ℕ). owned f document) c.in_ok-share.ensures.value;
 }
 

@@ -12,7 +12,7 @@ returns-in_err-count_one-clause-fault c =
 
 pub returns-clause-value : goal.returns-clause-value
 returns-clause-value c context rest =
-    let piece = c.in_ok-text_at.ensures.value in
+    let piece = c.text_at.ensures.value in
     pi_gives c.args.source.now.file.now (at_span c.args.source.now.text.now c.args.span) context rest c.args.work.now.count c.count_one.new.self.count c.in_ok-text.field-0 c.from_string.result c.args.address
     c.requires.owned
     (λ t i is. let same = c.in_ok-parts.ensures.exact t i (rw piece is) in (same.0 ∙ sym c.in_ok-text.ensures.value, same.1 ∙ sym c.from_string.ensures.value))

@@ -1,10 +1,14 @@
-use Rattle.std.proofs.Common.{◌≡◌, List, ◌++◌, map, drop}
-use Rattle.xt_spec.specs.Content.{HaveValues}
-use Rattle.xt_spec.specs.Namespace.{NamedValue}
-use Rattle.ent_doc.specs.Steps.{attribute_at}
+use Rattle.std.proofs.Common.{length}
+use Rattle.ent_doc.specs.Steps.{AreCut}
+use Rattle.ent_doc.proofs.TagLemmas.{ReadsValues}
 use Rattle.ent_doc.proofs.tag.values_of.Given as goal
 
--- the values so far, and those that are left
+-- what is left is cut; the values so far, and those that are left
 abbrev pub invariant-loop-attr : goal.invariant-loop-attr
-invariant-loop-attr l = (others : List NamedValue) → HaveValues (map (attribute_at l.source.text.now) l.attrs) others
-    → (more : List NamedValue) × HaveValues (map (attribute_at l.source.text.now) (drop l.attr-index l.attrs)) more × (others ≡ l.values.items ++ more)
+invariant-loop-attr l = record {
+  cut : AreCut l.source.text.now l.left;
+  read : ReadsValues l.source.text.now l.attrs l.left l.values.items;
+}
+
+abbrev pub decreases-loop-attr : goal.decreases-loop-attr
+decreases-loop-attr l = length l.left

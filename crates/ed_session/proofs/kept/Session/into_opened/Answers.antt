@@ -5,7 +5,7 @@ use Rattle.ed_session.proofs.kept.Session.into_opened.Goals as goal
 
 pub nodes_again-requires-clause-opens : goal.nodes_again-requires-clause-opens
 nodes_again-requires-clause-opens c =
-    same_opens c.self.inside.root c.self.inside.root c.as_slice.result.now c.self.inside.bytes.items c.as_slice-in-None.result.now c.self.inside.items refl c.as_slice.ensures.value c.as_slice-in-None.ensures c.self.invariant.opens
+    same_opens c.self.inside.root c.self.inside.root c.as_slice.result.now c.self.inside.bytes.items c.items.result c.self.inside.items refl c.as_slice.ensures.value c.items.ensures.value c.self.invariant.opens
 
 pub returns-in-Some : goal.returns-in-Some
 returns-in-Some c =
@@ -16,8 +16,8 @@ returns-in-Some c =
 pub returns : goal.returns
 returns c =
     let nodes = c.in_ok-nodes-in-None.nodes in
-    let again : IsMadeOf c.self.inside.root c.as_slice.result.now c.as_slice-in-None.result.now nodes =
+    let again : IsMadeOf c.self.inside.root c.as_slice.result.now c.items.result nodes =
     record { opens = c.in_ok-nodes-in-None.ensures.value; paths = c.in_ok-nodes-in-None.ensures.paths; via = c.in_ok-nodes-in-None.ensures.via } in
-    let made = same_made c.args.self.root c.self.inside.root c.args.self.bytes c.as_slice.result.now c.self.inside.items c.as_slice-in-None.result.now nodes
-    (ap (λ (k : Kept). k.root) (sym c.self.view_is)) (ap (λ (k : Kept). k.bytes) (sym c.self.view_is) ∙ sym c.as_slice.ensures.value) (sym c.as_slice-in-None.ensures) again in
+    let made = same_made c.args.self.root c.self.inside.root c.args.self.bytes c.as_slice.result.now c.self.inside.items c.items.result nodes
+    (ap (λ (k : Kept). k.root) (sym c.self.view_is)) (ap (λ (k : Kept). k.bytes) (sym c.self.view_is) ∙ sym c.as_slice.ensures.value) (sym c.items.ensures.value) again in
     record { value = made.opens; paths = made.paths; via = made.via }
