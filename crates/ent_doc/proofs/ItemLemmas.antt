@@ -1,14 +1,14 @@
 -- What an item of the code gives, and items in a row.
 use Rattle.std.proofs.Common.{◌≡◌, ◌∙◌, ℕ, ◌<◌, ◌≤◌, ◌+◌, List, [], ◌∷◌, ◌++◌, length, refl, sym, ap, subst, arith, length-append, Option, option_map, Result, Ok, Err}
 use Rattle.xt_spec.specs.Content.{HasContent}
-use Rattle.xt_spec.specs.Tree.{Items, Item, text_item, comment_item, pi_item, nil, element, leaf, before}
+use Rattle.xt_spec.specs.Tree.{Items, Item, text_item, reference_item, comment_item, pi_item, gap, nil, element, leaf, before}
 use Rattle.xt_lex.specs.declared.token.Span.{Span}
 use Rattle.xt_tree.specs.declared.source.Tag.{Tag as TagSrc}
 use Rattle.xt_tree.specs.declared.source.Src.{Src}
 use Rattle.xt_tree.specs.declared.source.Src.TheVariants as src
 use Rattle.xt_tree.specs.Meaning.{at_span, item_of, items_in}
 use Rattle.xt_tree.specs.Places.{Mark, tag_mark, marks_in, marks_of, tail_marks}
-use Rattle.xt_tree.proofs.Theorems.{element_marks, element_is, text_is, comment_is, pi_is}
+use Rattle.xt_tree.proofs.Theorems.{element_marks, element_is, text_is, reference_is, comment_is, pi_is, gap_is}
 use Rattle.xt_read.specs.ContentTest.{ArePlaced}
 use Rattle.xt_read.proofs.Theorems.{element_placed}
 use Rattle.bk_spec.specs.Node.{Nodes, node_count}
@@ -43,6 +43,20 @@ of_comment bytes P rest item span is so = subst (λ (x : Item). P (before x rest
 pub of_pi : (bytes : List ℕ) (P : Items → Type 0) (rest : Items) (item : Src) (span : Span) → item ≡ src.Pi span → P (leaf pi_item (at_span bytes span) rest) → P (before (item_of bytes item) rest)
 of_pi bytes P rest item span is so = subst (λ (x : Item). P (before x rest)) (sym (ap (item_of bytes) is ∙ pi_is bytes span)) so
 
+-- nothing in front of nodes leaves them as they are
+none_first : (others : Result Nodes Fault) → prepended [] others ≡ others
+none_first (Ok rest) = refl
+none_first (Err fault) = refl
+
+-- a reference and a gap give no node
+pub reference_gives : (bytes file : List ℕ) (context : Context) (rest : Items) (item : Src) (span : Span) (n : ℕ) → item ≡ src.Ref span → Gives file context (before (item_of bytes item) rest) rest n n []
+reference_gives bytes file context rest item span n is =
+    subst (λ (x : Item). Gives file context (before x rest) rest n n []) (sym (ap (item_of bytes) is ∙ reference_is bytes span)) (λ content has. absurd has)
+
+pub gap_gives : (bytes file : List ℕ) (context : Context) (rest : Items) (item : Src) (span : Span) (n : ℕ) → item ≡ src.Gap span → Gives file context (before (item_of bytes item) rest) rest n n []
+gap_gives bytes file context rest item span n is =
+    subst (λ (x : Item). Gives file context (before x rest) rest n n []) (sym (ap (item_of bytes) is ∙ gap_is bytes span)) (λ content has. (content, has.1, sym (none_first (nodes_of file context n content))))
+
 -- items, one after the other
 pub items_step : (bytes file : List ℕ) (context : Context) (items left rest : List Src) (x : Src) (n k m : ℕ) (nodes more joined : List Node) → left ≡ x ∷ rest → joined ≡ nodes ++ more
     → Gives file context (items_in bytes items) (items_in bytes left) n k nodes → ((behind : Items) → Gives file context (before (item_of bytes x) behind) behind k m more)
@@ -63,10 +77,6 @@ items_fail bytes file context items left rest x n k nodes fault is so_far next c
 pub items_begin : (bytes file : List ℕ) (context : Context) (items : List Src) (n : ℕ) (nodes : List Node) → nodes ≡ [] → Gives file context (items_in bytes items) (items_in bytes items) n n nodes
 items_begin bytes file context items n nodes none content has =
     (content, has, rw none (sym (none_first (nodes_of file context n content))))
-  where
-    none_first : (others : Result Nodes Fault) → prepended [] others ≡ others
-    none_first (Ok rest) = refl
-    none_first (Err fault) = refl
 
 pub items_end : (bytes file : List ℕ) (context : Context) (items left : List Src) (n m : ℕ) (nodes list : List Node) → left ≡ [] → list ≡ nodes → Gives file context (items_in bytes items) (items_in bytes left) n m nodes
     → Gives file context (items_in bytes items) nil n m list

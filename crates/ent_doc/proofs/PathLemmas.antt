@@ -3,9 +3,12 @@ use Rattle.std.proofs.Common.{◌≡◌, ◌≢◌, ◌∙◌, ◌+◌, ℕ, suc
 use Rattle.std.proofs.lemmas.Bool.{cases_Bool}
 use Rattle.xt_spec.specs.Content.{HasContent}
 use Rattle.xt_spec.specs.Text.{HasTextValue, is_void}
-use Rattle.xt_spec.specs.Tree.{Items, element, leaf, text_item, comment_item, pi_item, before}
+use Rattle.xt_spec.specs.Tree.{Items, element, leaf, text_item, comment_item, pi_item, before, Item}
 use Rattle.xt_tree.specs.declared.source.Src.{Src}
+use Rattle.xt_lex.specs.declared.token.Span.{Span}
+use Rattle.xt_tree.specs.declared.source.Src.TheVariants as src
 use Rattle.xt_tree.specs.Meaning.{item_of, items_in}
+use Rattle.xt_tree.proofs.Theorems.{reference_is, gap_is}
 use Rattle.xt_value.proofs.Theorems.{void_is_empty}
 use Rattle.bk_spec.specs.DocumentNodes.{Context}
 use Rattle.bk_spec.specs.NodePaths.{path_below, node_paths}
@@ -54,6 +57,15 @@ comment_has_path text value address outer index rest same content has =
 pub pi_has_path : (text target value : List ℕ) (address : Address) (outer : List ℕ) (index : ℕ) (rest : Items) → address.path ≡ path_below outer index → HasPaths outer index (leaf pi_item text rest) rest (suc index) (code.Pi target value address ∷ [])
 pi_has_path text target value address outer index rest same content has =
     one_path (code.Pi target value address) address.path (path_below outer index) (node_paths outer (suc index) rest) (pi_paths target value address) same
+
+-- a reference and a gap have no path
+pub reference_paths : (bytes : List ℕ) (rest : Items) (item : Src) (span : Span) (outer : List ℕ) (index : ℕ) → item ≡ src.Ref span → HasPaths outer index (before (item_of bytes item) rest) rest (suc index) []
+reference_paths bytes rest item span outer index is =
+    subst (λ (x : Item). HasPaths outer index (before x rest) rest (suc index) []) (sym (ap (item_of bytes) is ∙ reference_is bytes span)) (λ content has. absurd has)
+
+pub gap_paths : (bytes : List ℕ) (rest : Items) (item : Src) (span : Span) (outer : List ℕ) (index : ℕ) → item ≡ src.Gap span → HasPaths outer index (before (item_of bytes item) rest) rest (suc index) []
+gap_paths bytes rest item span outer index is =
+    subst (λ (x : Item). HasPaths outer index (before x rest) rest (suc index) []) (sym (ap (item_of bytes) is ∙ gap_is bytes span)) (λ content has. refl)
 
 -- ---- elements
 

@@ -101,7 +101,8 @@ fn node_of(
         Item::Text(span) => text_node(alloc, source, work, *span, address),
         Item::Comment(span) => Ok(Some(comment_node(alloc, source, work, *span, address)?)),
         Item::Pi(span) => Ok(Some(pi_node(alloc, source, work, *span, address)?)),
-        Item::Ref(_) | Item::Gap(_) => Ok(None),
+        Item::Ref(_) => Ok(None),
+        Item::Gap(_) => Ok(None),
     }
 }
 

@@ -1,12 +1,11 @@
 -- Items are tested for content, one by one.
-use Rattle.std.proofs.Common.{◌≡◌, ◌∙◌, ℕ, ◌<◌, ◌≤◌, List, [], ◌∷◌, ◌++◌, length, refl, sym, ap, subst, Bool, true, false, arith, IsTrue, ◌↔◌, Option, Some, None, option_map, inl, inr, suc}
+use Rattle.std.proofs.Common.{◌≡◌, ◌∙◌, ℕ, ◌≤◌, List, [], ◌∷◌, ◌++◌, length, refl, sym, ap, subst, Bool, true, false, arith, IsTrue, ◌↔◌, Option, Some, None, option_map, inl, inr, suc, codes, not}
 use Rattle.std.specs.List.{AllByRecursion}
-use Rattle.std.proofs.lemmas.List.{length-append}
 use Rattle.xt_spec.specs.Tag.{Attribute, Tag, tag_text}
 use Rattle.xt_spec.specs.Tree.{Items, nil, element, leaf, before, LeafKind, Item, element_item, leaf_item, text_item, reference_item, comment_item, pi_item, gap}
 use Rattle.xt_spec.specs.Reading.{IsElement, IsContent, Stage, before_doctype, before_root, behind_root, Leads, tag_ending, IsMarked, IsDeclared, document, IsReading}
 use Rattle.xt_spec.specs.Declaration.{is_xml_declaration}
-use Rattle.xt_spec.specs.Markup.{IsComment, IsPi}
+use Rattle.xt_spec.specs.Markup.{IsComment, IsPi, begins}
 use Rattle.xt_spec.specs.Namespace.{NamedValue}
 use Rattle.xt_spec.specs.Text.{IsTextItem}
 use Rattle.xt_spec.specs.Content.{nothing_given, element_content, text_content, typed, HaveValues}
@@ -283,3 +282,24 @@ comment_gives text item span is spelled =
 pub pi_gives : (text : List ℕ) (item : Src) (span : Span) → item ≡ src.Pi span → AreSpelled (before (item_of text item) nil) → (IsTrue true ↔ GiveContent (before (item_of text item) nil))
 pi_gives text item span is spelled =
     subst (λ i. IsTrue true ↔ GiveContent i) (sym (pi_shape text item span is)) (always (leaf pi_item (at_span text span) nil) (pi_content_of (at_span text span) (pi_spelled text item span is spelled)))
+
+reference_shape : (text : List ℕ) (item : Src) (span : Span) → item ≡ src.Ref span → before (item_of text item) nil ≡ leaf reference_item (at_span text span) nil
+reference_shape text item span is = leaf_shape text (at_span text span) reference_item item (ap (item_of text) (is ∙ sym (src.rolls-Ref span)) ∙ fold-roll-Src Item (item_step text) (Src-F.Ref span))
+
+gap_shape : (text : List ℕ) (item : Src) (span : Span) → item ≡ src.Gap span → before (item_of text item) nil ≡ leaf gap (at_span text span) nil
+gap_shape text item span is = leaf_shape text (at_span text span) gap item (ap (item_of text) (is ∙ sym (src.rolls-Gap span)) ∙ fold-roll-Src Item (item_step text) (Src-F.Gap span))
+
+never : (t : List ℕ) → GiveContent (leaf reference_item t nil) → ⊥
+never t (content, has) = has
+
+pub reference_gives : (text : List ℕ) (item : Src) (span : Span) → item ≡ src.Ref span → (IsTrue false ↔ GiveContent (before (item_of text item) nil))
+reference_gives text item span is =
+    subst (λ i. IsTrue false ↔ GiveContent i) (sym (reference_shape text item span is)) ((λ no. absurd (cc)), λ gives. absurd (never (at_span text span) gives))
+
+gap_test : (t : List ℕ) (doctype : Bool) → doctype ≡ begins (codes "<!DOCTYPE") t → (IsTrue (not doctype) ↔ GiveContent (leaf gap t nil))
+gap_test t true is = ((λ no. absurd (cc)), λ gives. let other : true ≡ false = is ∙ gives.1.0 in absurd (cc))
+gap_test t false is = ((λ yes. (nothing_given, (sym is, refl))), λ gives. refl)
+
+pub gap_gives : (text gap_text : List ℕ) (item : Src) (span : Span) (doctype : Bool) → item ≡ src.Gap span → gap_text ≡ at_span text span → doctype ≡ begins (codes "<!DOCTYPE") gap_text → (IsTrue (not doctype) ↔ GiveContent (before (item_of text item) nil))
+gap_gives text gap_text item span doctype is same test =
+    subst (λ i. IsTrue (not doctype) ↔ GiveContent i) (sym (gap_shape text item span is)) (gap_test (at_span text span) doctype (test ∙ ap (begins (codes "<!DOCTYPE")) same))

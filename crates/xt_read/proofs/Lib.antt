@@ -7,6 +7,7 @@ mod Complete
 mod Sound
 mod Fronts
 mod FrontPlaces
+mod FrontItems
 mod PlainTexts
 mod NoFaults
 mod Continued
@@ -14,6 +15,7 @@ mod Completed
 mod Refused
 mod Examples
 mod TagParts
+mod TagShapes
 mod TokenSteps
 mod Whole
 mod ValueParts

@@ -1,18 +1,19 @@
 -- What a reader has at the end of the text.
 use Rattle.std.proofs.Common.{◌≡◌, ◌∙◌, ℕ, ◌≤◌, List, [], ◌∷◌, length, map, drop, refl, inr, subst, sym, ap, arith, true, false, option_map}
-use Rattle.std.proofs.lemmas.List.{length-reverse, length-map}
+use Rattle.std.proofs.lemmas.List.{length-map}
 use Rattle.std.proofs.Math.ListN.{drop_of_length-le}
 use Rattle.xt_spec.specs.Tree.{items_of}
 use Rattle.xt_tree.specs.declared.source.Src.{Src}
 use Rattle.xt_tree.specs.Meaning.{at_span, item_of, items_in}
-use Rattle.xt_read.specs.declared.reader.Frame.{Frame}
+use Rattle.xt_tree.specs.Rows.{OpenTag}
+use Rattle.xt_tree.specs.Built.{built}
 use Rattle.xt_read.specs.declared.reader.Reader.{Reader}
 use Rattle.xt_spec.specs.FirstFault.{not_well_formed}
 use Rattle.xt_read.specs.Progress.{element_of, state_of}
 use Rattle.xt_read.specs.Run.{Body, OpenElement, State, begin, with_text, is_top, IsWhole, IsRead, Passes}
 use Rattle.xt_read.specs.Faults.{IsHalt, IsBodyFault}
 
-none_of_length : (frames : List Frame) → length frames ≡ 0 → frames ≡ []
+none_of_length : (frames : List OpenTag) → length frames ≡ 0 → frames ≡ []
 none_of_length [] e = refl
 none_of_length (f ∷ fs) e = absurd (cc)
 
@@ -21,12 +22,12 @@ none_on_top [] is = refl
 none_on_top (e ∷ es) is = absurd (let h : false ≡ true = is in cc)
 
 -- at the top no element is open
-pub no_frames : (bytes : List ℕ) (reader : Reader) → is_top (state_of bytes reader).opened ≡ true → reader.opened.items ≡ []
-no_frames bytes reader is =
-    none_of_length reader.opened.items (sym (length-reverse (map (element_of bytes) reader.opened.items) ∙ length-map reader.opened.items (element_of bytes)) ∙ ap length (none_on_top (state_of bytes reader).opened is))
+pub none_opened : (bytes : List ℕ) (reader : Reader) → is_top (state_of bytes reader).opened ≡ true → (built reader.tape).opened ≡ []
+none_opened bytes reader is =
+    none_of_length (built reader.tape).opened (sym (length-map (built reader.tape).opened (element_of bytes)) ∙ ap length (none_on_top (state_of bytes reader).opened is))
 
 -- what was read to the end of the text
-pub is_read : (body : Body) (text : List ℕ) (from : ℕ) (reader : Reader) (settled items : List Src) → Passes (begin body) (drop from text) (state_of text reader) [] → IsWhole (state_of text reader) → map (item_of text) settled ≡ with_text (map (item_of text) reader.items) (option_map (at_span text) reader.text) → items ≡ settled
+pub is_read : (body : Body) (text : List ℕ) (from : ℕ) (reader : Reader) (settled items : List Src) → Passes (begin body) (drop from text) (state_of text reader) [] → IsWhole (state_of text reader) → map (item_of text) settled ≡ with_text (map (item_of text) (built reader.tape).items) (option_map (at_span text) reader.text) → items ≡ settled
     → IsRead body (drop from text) (items_in text items)
 is_read body text from reader settled items passes whole all same = record {
   last = state_of text reader;

@@ -2,6 +2,8 @@
 --
 --   IsDeclarationAt  one stands there, with this span; NoDeclarationAt: none does
 --   IsDeclaredAt     .. of a form, that names no other encoding than UTF-8
+--   mark_src         the gap of a mark, as the code has it; declared_src: of a declaration; front_src: both;
+--                    text_src: a text
 --   front_items      the gaps of a mark and a declaration; front_marks: their marks
 --   one_text_items   the items of a text behind a mark; one_text_marks: their marks
 use Rattle.std.specs.Prelude.{◌≡◌, ℕ, ◌<◌, ◌≤◌, Bool, List, [], ◌∷◌, ◌++◌, length, drop, ◌==◌, if◌then◌else◌, Option, None, Some}
@@ -10,6 +12,8 @@ use Rattle.xt_spec.specs.Declaration.{Declaration, IsDeclaration}
 use Rattle.xt_spec.specs.Reading.{DeclaresUtf8}
 use Rattle.xt_lex.specs.declared.token.Span.{Span}
 use Rattle.xt_spec.specs.Tree.{Items, nil, leaf, text_item, gap}
+use Rattle.xt_tree.specs.declared.source.Src.{Src}
+use Rattle.xt_tree.specs.declared.source.Src.TheVariants as src
 use Rattle.xt_tree.specs.Meaning.{at_span}
 use Rattle.xt_tree.specs.Places.{Mark, span_mark}
 
@@ -29,10 +33,27 @@ pub record IsDeclaredAt (form : Declaration → Bool) (text : List ℕ) (at : �
   pub declares : DeclaresUtf8 form (at_span text span)
 
 -- the gap of a byte order mark of so many bytes, or none
+abbrev pub mark_src : ℕ → List Src
+mark_src len = if len == 0 then [] else src.Gap (record { from = 0; to = len }) ∷ []
+
+-- .. of a declaration with this span
+abbrev pub declared_src : Option Span → List Src
+declared_src None = []
+declared_src (Some span) = src.Gap span ∷ []
+
+-- .. of both
+abbrev pub front_src : ℕ → Option Span → List Src
+front_src len declared = mark_src len ++ declared_src declared
+
+-- the text from one place to another, or none
+abbrev pub text_src : ℕ → ℕ → List Src
+text_src from to = if from == to then [] else src.Text (record { from = from; to = to }) ∷ []
+
+-- what these are in the text: the gap of a byte order mark
 abbrev pub mark_gap : List ℕ → ℕ → Items → Items
 mark_gap text len rest = if len == 0 then rest else leaf gap (at_span text (record { from = 0; to = len })) rest
 
--- .. of a declaration with this span
+-- .. of a declaration
 abbrev pub declared_gap : List ℕ → Option Span → Items
 declared_gap text None = nil
 declared_gap text (Some span) = leaf gap (at_span text span) nil

@@ -2,6 +2,7 @@
 
 ghost use Rattle.std.specs.Prelude.{◌≡◌, ◌<◌, ◌≤◌, ◌+◌, ◌^◌, ℕ, length, drop, OnOk, IfOk, IfErr, IfSome};
 ghost use Rattle.std.specs.Str.{IsCharBoundary};
+ghost use Rattle.xt_tree.specs.Built.{IsSound};
 ghost use Rattle.xt_tree.specs.Meaning.{at_span};
 ghost use Rattle.xt_lex.specs.Kinds.{kind_of};
 ghost use Rattle.xt_lex.specs.declared.token.Kind.TheVariants as kind;
@@ -22,6 +23,8 @@ impl Reader {
         requires kind { token.kind ≡ kind.Start }
         requires token { IsTokenAt text.now token }
         requires place { IsPlaced text.now self.old token.span.from }
+        requires sound { IsSound self.old.tape }
+        ensures sound { OnOk result (IsSound self.new.tape) }
         ensures value { Takes text.now token (state_of text.now self.old) result (state_of text.now self.new) }
         ensures place { OnOk result (PlacesOn text.now self.old self.new token.span.from token.span.to) }
     {
@@ -36,6 +39,8 @@ impl Reader {
         requires kind { token.kind ≡ kind.Empty }
         requires token { IsTokenAt text.now token }
         requires place { IsPlaced text.now self.old token.span.from }
+        requires sound { IsSound self.old.tape }
+        ensures sound { OnOk result (IsSound self.new.tape) }
         ensures value { Takes text.now token (state_of text.now self.old) result (state_of text.now self.new) }
         ensures place { OnOk result (PlacesOn text.now self.old self.new token.span.from token.span.to) }
     {
@@ -46,15 +51,17 @@ impl Reader {
     }
 
     /// Goes on with an end-tag.
-    fn takes_end(&mut self, alloc: Global, text: &str, token: Token) -> Result<(), Halt>
+    fn takes_end(&mut self, text: &str, token: Token) -> Result<(), Halt>
         requires kind { token.kind ≡ kind.End }
         requires token { IsTokenAt text.now token }
         requires place { IsPlaced text.now self.old token.span.from }
+        requires sound { IsSound self.old.tape }
+        ensures sound { OnOk result (IsSound self.new.tape) }
         ensures value { Takes text.now token (state_of text.now self.old) result (state_of text.now self.new) }
         ensures place { OnOk result (PlacesOn text.now self.old self.new token.span.from token.span.to) }
     {
         let name = read_end_name(text, token.span);
-        self.closes(alloc, text.as_bytes(), token.span, name)
+        self.closes(text.as_bytes(), token.span, name)
     }
 
     /// Goes on with character data.
@@ -62,6 +69,8 @@ impl Reader {
         requires kind { token.kind ≡ kind.Chars }
         requires token { IsTokenAt text.now token }
         requires place { IsPlaced text.now self.old token.span.from }
+        requires sound { IsSound self.old.tape }
+        ensures sound { OnOk result (IsSound self.new.tape) }
         ensures value { Takes text.now token (state_of text.now self.old) result (state_of text.now self.new) }
         ensures place { OnOk result (PlacesOn text.now self.old self.new token.span.from token.span.to) }
     {
@@ -73,6 +82,8 @@ impl Reader {
         requires kind { IsPiece (kind_of token.kind) part_piece (at_span text.now token.span) }
         requires token { IsTokenAt text.now token }
         requires place { IsPlaced text.now self.old token.span.from }
+        requires sound { IsSound self.old.tape }
+        ensures sound { OnOk result (IsSound self.new.tape) }
         ensures value { Takes text.now token (state_of text.now self.old) result (state_of text.now self.new) }
         ensures place { OnOk result (PlacesOn text.now self.old self.new token.span.from token.span.to) }
     {
@@ -84,6 +95,8 @@ impl Reader {
         requires kind { IsPiece (kind_of token.kind) reference_piece (at_span text.now token.span) }
         requires token { IsTokenAt text.now token }
         requires place { IsPlaced text.now self.old token.span.from }
+        requires sound { IsSound self.old.tape }
+        ensures sound { OnOk result (IsSound self.new.tape) }
         ensures value { Takes text.now token (state_of text.now self.old) result (state_of text.now self.new) }
         ensures place { OnOk result (PlacesOn text.now self.old self.new token.span.from token.span.to) }
     {
@@ -95,6 +108,8 @@ impl Reader {
         requires kind { token.kind ≡ kind.Comment }
         requires token { IsTokenAt text.now token }
         requires place { IsPlaced text.now self.old token.span.from }
+        requires sound { IsSound self.old.tape }
+        ensures sound { OnOk result (IsSound self.new.tape) }
         ensures value { Takes text.now token (state_of text.now self.old) result (state_of text.now self.new) }
         ensures place { OnOk result (PlacesOn text.now self.old self.new token.span.from token.span.to) }
     {
@@ -106,6 +121,8 @@ impl Reader {
         requires kind { token.kind ≡ kind.Pi }
         requires token { IsTokenAt text.now token }
         requires place { IsPlaced text.now self.old token.span.from }
+        requires sound { IsSound self.old.tape }
+        ensures sound { OnOk result (IsSound self.new.tape) }
         ensures value { Takes text.now token (state_of text.now self.old) result (state_of text.now self.new) }
         ensures place { OnOk result (PlacesOn text.now self.old self.new token.span.from token.span.to) }
     {
@@ -117,6 +134,8 @@ impl Reader {
         requires kind { token.kind ≡ kind.Doctype }
         requires token { IsTokenAt text.now token }
         requires place { IsPlaced text.now self.old token.span.from }
+        requires sound { IsSound self.old.tape }
+        ensures sound { OnOk result (IsSound self.new.tape) }
         ensures value { Takes text.now token (state_of text.now self.old) result (state_of text.now self.new) }
         ensures place { OnOk result (PlacesOn text.now self.old self.new token.span.from token.span.to) }
     {
@@ -128,6 +147,8 @@ impl Reader {
         requires kind { token.kind ≡ kind.Decl }
         requires token { IsTokenAt text.now token }
         requires place { IsPlaced text.now self.old token.span.from }
+        requires sound { IsSound self.old.tape }
+        ensures sound { OnOk result (IsSound self.new.tape) }
         ensures value { Takes text.now token (state_of text.now self.old) result (state_of text.now self.new) }
         ensures place { OnOk result (PlacesOn text.now self.old self.new token.span.from token.span.to) }
     {
@@ -139,6 +160,8 @@ impl Reader {
         requires kind { token.kind ≡ kind.EntRef }
         requires token { IsTokenAt text.now token }
         requires place { IsPlaced text.now self.old token.span.from }
+        requires sound { IsSound self.old.tape }
+        ensures sound { OnOk result (IsSound self.new.tape) }
         ensures value { Takes text.now token (state_of text.now self.old) result (state_of text.now self.new) }
         ensures place { OnOk result (PlacesOn text.now self.old self.new token.span.from token.span.to) }
     {
@@ -152,13 +175,15 @@ impl Reader {
     fn takes(&mut self, alloc: Global, text: &str, token: Token) -> Result<(), Halt>
         requires token { IsTokenAt text.now token }
         requires place { IsPlaced text.now self.old token.span.from }
+        requires sound { IsSound self.old.tape }
+        ensures sound { OnOk result (IsSound self.new.tape) }
         ensures value { Takes text.now token (state_of text.now self.old) result (state_of text.now self.new) }
         ensures place { OnOk result (PlacesOn text.now self.old self.new token.span.from token.span.to) }
     {
         match token.kind {
             Kind::Start => self.takes_start(alloc, text, token),
             Kind::Empty => self.takes_empty(alloc, text, token),
-            Kind::End => self.takes_end(alloc, text, token),
+            Kind::End => self.takes_end(text, token),
             Kind::Chars => self.takes_data(text, token),
             Kind::CharRef => self.takes_part(text, token),
             Kind::EntRef => self.takes_entity(text, token),
@@ -176,6 +201,8 @@ impl Reader {
         requires boundary { IsCharBoundary text.now at }
         requires fits { length text.now < 2 ^ 32 }
         requires place { IsPlaced text.now self.old at }
+        requires sound { IsSound self.old.tape }
+        ensures sound { IfOk result (λ to. IsSound self.new.tape) }
         ensures value { IfOk result (λ to. (tok : Tok) × IsToken tok (drop at text.now) × (to ≡ at + length (tok_text tok)) × (step (state_of text.now self.old) tok ≡ Some (state_of text.now self.new))) }
         ensures place { IfOk result (PlacesOn text.now self.old self.new at) }
         ensures on { IfOk result (λ to. (at < to) × (to ≤ length text.now) × IsCharBoundary text.now to) }

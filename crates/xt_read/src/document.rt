@@ -1,6 +1,6 @@
 //! Documents, external parsed entities and texts: the items of a file in its role, or its first fault.
 
-ghost use Rattle.std.specs.Prelude.{◌≡◌, ◌<◌, ◌+◌, ◌++◌, ◌^◌, length, IfOk, IfErr, IfSome};
+ghost use Rattle.std.specs.Prelude.{◌≡◌, ◌<◌, ◌+◌, ◌^◌, length, IfOk, IfErr, IfSome};
 ghost use Rattle.xt_spec.specs.Tree.{source_text};
 ghost use Rattle.xt_spec.specs.Reading.{document, entity, plain_text, IsOrdered, IsReading};
 ghost use Rattle.xt_spec.specs.FirstFault.{IsFirstFault};
@@ -9,15 +9,14 @@ ghost use Rattle.xt_tree.specs.Places.{marks_of, AreInPlace};
 ghost use Rattle.xt_read.specs.Front.{role_of, markup_role_of};
 ghost use Rattle.xt_read.specs.Faults.{reading_fault, IsMarkupFault, IsTextFault};
 
-use crate::front::{FileRole, Front, MarkupRole, read_front};
+use crate::front::{FileRole, MarkupRole, read_front};
 use crate::items::read_body;
 use crate::text::read_one_text;
 use crate::unread::Unread;
-use sqlite_items::Items;
-use std::alloc::{AllocError, Global};
+use std::alloc::Global;
 use std::sync::ledger::Ledger;
 use xt_lex::{NotUtf8, Steps, text_of};
-use xt_tree::{Src, Tape};
+use xt_tree::Tape;
 
 /// Counts each byte.
 pub(crate) fn count<L: Ledger>(bytes: &[u8], steps: &mut Steps<L>)
@@ -28,42 +27,29 @@ pub(crate) fn count<L: Ledger>(bytes: &[u8], steps: &mut Steps<L>)
     }
 }
 
-/// The items behind the gaps in front.
-fn joined(front: Front, items: Items<Src>) -> Result<Items<Src>, AllocError>
-    ensures { IfOk result (λ all. all ≡ front.gaps ++ items) }
-{
-    let Front { gaps, .. } = front;
-    if gaps.is_empty() {
-        return Ok(items);
-    }
-    let mut all = gaps;
-    all.append(items)?;
-    Ok(all)
-}
-
 /// The items of a text of markup in its role.
-fn read_markup(alloc: Global, text: &str, role: MarkupRole) -> Result<Items<Src>, Unread>
+fn read_markup(alloc: Global, text: &str, role: MarkupRole) -> Result<Tape, Unread>
     requires fits { length text.now < 2 ^ 32 }
     ensures value { IfOk result (λ items. IsOrdered (markup_role_of role) (items_in text.now items) × (source_text (items_in text.now items) ≡ text.now)) }
     ensures place { IfOk result (λ items. AreInPlace text.now 0 (marks_of items) (length text.now)) }
     ensures fault { IfErr result (λ e. IfSome (reading_fault e) (IsMarkupFault role text.now)) }
 {
-    let front = match read_front(alloc, text, role) {
+    let front = match read_front(text, role) {
         Ok(front) => front,
         Err(unread) => return Err(unread),
     };
-    let items = match read_body(alloc, text, front.to, role.body()) {
-        Ok(items) => items,
+    let mut tape = match read_body(alloc, text, front.to, role.body()) {
+        Ok(tape) => tape,
         Err(unread) => return Err(unread),
     };
-    match joined(front, items) {
-        Ok(all) => Ok(all),
+    match front.put_before(&mut tape) {
+        Ok(()) => Ok(tape),
         Err(_) => Err(Unread::NoMemory),
     }
 }
 
 /// The items of a text in its role.
-fn read_text_as(alloc: Global, text: &str, role: FileRole) -> Result<Items<Src>, Unread>
+fn read_text_as(alloc: Global, text: &str, role: FileRole) -> Result<Tape, Unread>
     requires fits { length text.now < 2 ^ 32 }
     ensures value { IfOk result (λ items. IsOrdered (role_of role) (items_in text.now items) × (source_text (items_in text.now items) ≡ text.now)) }
     ensures place { IfOk result (λ items. AreInPlace text.now 0 (marks_of items) (length text.now)) }
@@ -76,18 +62,8 @@ fn read_text_as(alloc: Global, text: &str, role: FileRole) -> Result<Items<Src>,
     }
 }
 
-/// The items of a reading, as they are kept.
-fn kept(items: Result<Items<Src>, Unread>) -> Result<Tape, Unread>
-    ensures value { result ≡ items }
-{
-    match items {
-        Ok(items) => Ok(Tape::of(items)),
-        Err(unread) => Err(unread),
-    }
-}
-
 /// The items of a file in its role.
-fn read_as(alloc: Global, bytes: &[u8], role: FileRole) -> Result<Items<Src>, Unread>
+fn read_as(alloc: Global, bytes: &[u8], role: FileRole) -> Result<Tape, Unread>
     requires fits { length bytes.now < 2 ^ 32 }
     ensures value { IfOk result (λ items. IsReading (role_of role) bytes.now (items_in bytes.now items)) }
     ensures place { IfOk result (λ items. AreInPlace bytes.now 0 (marks_of items) (length bytes.now)) }
@@ -114,7 +90,7 @@ pub fn read_document<L: Ledger>(
     ensures count { steps.new ≡ steps.old + length bytes.now }
 {
     count(bytes, steps);
-    kept(read_as(alloc, bytes, FileRole::Document))
+    read_as(alloc, bytes, FileRole::Document)
 }
 
 /// The items of an external parsed entity, with their places in its bytes, or its first fault.
@@ -132,7 +108,7 @@ pub fn read_entity<L: Ledger>(
     ensures count { steps.new ≡ steps.old + length bytes.now }
 {
     count(bytes, steps);
-    kept(read_as(alloc, bytes, FileRole::Entity))
+    read_as(alloc, bytes, FileRole::Entity)
 }
 
 /// The items of a file that is included as a text, with their places in its bytes, or its first fault: a byte order mark,
@@ -151,5 +127,5 @@ pub fn read_text<L: Ledger>(
     ensures count { steps.new ≡ steps.old + length bytes.now }
 {
     count(bytes, steps);
-    kept(read_as(alloc, bytes, FileRole::Text))
+    read_as(alloc, bytes, FileRole::Text)
 }

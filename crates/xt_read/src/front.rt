@@ -1,25 +1,23 @@
 //! What stands in front of a body: a byte order mark and a declaration.
 
-ghost use Rattle.std.specs.Prelude.{◌≡◌, ◌<◌, ◌≤◌, ◌^◌, ℕ, List, length, drop, nat_eq, IfOk, IfErr, MatchOption, if◌then◌else◌, IfSome};
+ghost use Rattle.std.specs.Prelude.{◌≡◌, ◌<◌, ◌≤◌, ◌^◌, ◌++◌, length, drop, nat_eq, OnOk, IfOk, IfErr, MatchOption, if◌then◌else◌, IfSome};
 ghost use Rattle.std.specs.List.{starts_with};
 ghost use Rattle.std.specs.Str.{IsCharBoundary};
 ghost use Rattle.xt_spec.specs.Reading.{mark};
 ghost use Rattle.xt_lex.specs.DeclaredValues.{values_of};
-ghost use Rattle.xt_tree.specs.Meaning.{at_span, items_in};
-ghost use Rattle.xt_tree.specs.Places.{marks_of, AreInPlace};
+ghost use Rattle.xt_tree.specs.Places.{AreInPlace};
 ghost use Rattle.xt_read.specs.Progress.{body_of};
 ghost use Rattle.xt_spec.specs.Front.{NoDeclared, IsForeign};
 ghost use Rattle.xt_spec.specs.FirstFault.{HasBodyAt};
 ghost use Rattle.xt_read.specs.Front.{form_of, body_for, gaps_to};
 ghost use Rattle.xt_read.specs.Faults.{reading_fault, IsMarkupFault};
-ghost use Rattle.xt_read.specs.FrontSteps.{IsDeclarationAt, NoDeclarationAt, IsDeclaredAt, front_items, front_marks, front_len};
+ghost use Rattle.xt_read.specs.FrontSteps.{IsDeclarationAt, NoDeclarationAt, IsDeclaredAt, mark_src, declared_src, front_src, front_items, front_marks, front_len};
 
 use crate::stage::Body;
 use crate::unread::Unread;
-use sqlite_items::Items;
-use std::alloc::{AllocError, Global};
+use std::alloc::AllocError;
 use xt_lex::{Declaration, Kind, Span, next_token, read_declaration};
-use xt_tree::Src;
+use xt_tree::Tape;
 
 /// In which role a file is read.
 #[derive(Clone, Copy, Debug, PartialEq, Eq)]
@@ -60,10 +58,11 @@ impl MarkupRole {
     }
 }
 
-/// The gaps in front of a body, and where it begins.
-#[derive(Debug, Drop)]
+/// What stands in front of a body, and where it begins: how many bytes the byte order mark takes, and the declaration.
+#[derive(Clone, Copy, Debug)]
 pub(crate) struct Front {
-    pub(crate) gaps: Items<Src>,
+    pub(crate) mark: u32,
+    pub(crate) declared: Option<Span>,
     pub(crate) to: usize,
 }
 
@@ -123,23 +122,34 @@ fn declared_at(text: &str, at: usize, role: MarkupRole) -> Result<Option<Span>, 
     }
 }
 
-/// The gaps of a byte order mark of so many bytes, and of a declaration.
-fn gaps_of(alloc: Global, mark: usize, declared: Option<Span>) -> Result<Items<Src>, AllocError>
-    requires fits { mark < 2 ^ 32 }
-    ensures value { (text : List ℕ) → IfOk result (λ gaps. items_in text gaps ≡ front_items text mark declared) }
-    ensures place { (text : List ℕ) → IfOk result (λ gaps. marks_of gaps ≡ front_marks mark declared) }
+/// The gap of a byte order mark of so many bytes, in front of all, where there is one.
+pub(crate) fn begin_with_mark(tape: &mut Tape, mark: u32) -> Result<(), AllocError>
+    ensures value { OnOk result (tape.new ≡ mark_src mark ++ tape.old) }
 {
-    let mut gaps = Items::new(alloc);
-    if mark != 0 {
-        gaps.push(Src::Gap(Span {
-            from: 0,
-            to: mark as u32,
-        }))?;
+    if mark == 0 {
+        return Ok(());
     }
-    if let Some(span) = declared {
-        gaps.push(Src::Gap(span))?;
+    tape.begins_with_gap(Span { from: 0, to: mark })
+}
+
+/// The gap of a declaration, in front of all, where there is one.
+fn begin_with_declaration(tape: &mut Tape, declared: Option<Span>) -> Result<(), AllocError>
+    ensures value { OnOk result (tape.new ≡ declared_src declared ++ tape.old) }
+{
+    match declared {
+        Some(span) => tape.begins_with_gap(span),
+        None => Ok(()),
     }
-    Ok(gaps)
+}
+
+impl Front {
+    /// Puts the gaps in front of the items of the body.
+    pub(crate) fn put_before(self, tape: &mut Tape) -> Result<(), AllocError>
+        ensures value { OnOk result (tape.new ≡ front_src self.mark self.declared ++ tape.old) }
+    {
+        begin_with_declaration(tape, self.declared)?;
+        begin_with_mark(tape, self.mark)
+    }
 }
 
 /// Where the body begins, behind a byte order mark of so many bytes and a declaration.
@@ -153,11 +163,11 @@ fn front_len(mark: usize, declared: Option<Span>) -> usize
 }
 
 /// What stands in front of a body.
-pub(crate) fn read_front(alloc: Global, text: &str, role: MarkupRole) -> Result<Front, Unread>
+pub(crate) fn read_front(text: &str, role: MarkupRole) -> Result<Front, Unread>
     requires fits { length text.now < 2 ^ 32 }
-    ensures value { IfOk result (λ front. items_in text.now front.gaps ≡ gaps_to text.now front.to) }
+    ensures value { IfOk result (λ front. front_items text.now front.mark front.declared ≡ gaps_to text.now front.to) }
     ensures opens { IfOk result (λ front. HasBodyAt (form_of role) text.now front.to) }
-    ensures place { IfOk result (λ front. AreInPlace text.now 0 (marks_of front.gaps) front.to) }
+    ensures place { IfOk result (λ front. AreInPlace text.now 0 (front_marks front.mark front.declared) front.to) }
     ensures within { IfOk result (λ front. front.to ≤ length text.now) }
     ensures cut { IfOk result (λ front. IsCharBoundary text.now front.to) }
     ensures fault { IfErr result (λ e. IfSome (reading_fault e) (IsMarkupFault role text.now)) }
@@ -167,11 +177,9 @@ pub(crate) fn read_front(alloc: Global, text: &str, role: MarkupRole) -> Result<
         Ok(declared) => declared,
         Err(unread) => return Err(unread),
     };
-    match gaps_of(alloc, mark, declared) {
-        Ok(gaps) => Ok(Front {
-            gaps,
-            to: front_len(mark, declared),
-        }),
-        Err(_) => Err(Unread::NoMemory),
-    }
+    Ok(Front {
+        mark: mark as u32,
+        declared,
+        to: front_len(mark, declared),
+    })
 }

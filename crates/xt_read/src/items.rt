@@ -2,6 +2,7 @@
 
 ghost use Rattle.std.specs.Prelude.{◌≡◌, ◌<◌, ◌≤◌, ◌^◌, [], length, drop, IfOk, IfErr, IfSome};
 ghost use Rattle.std.specs.Str.{IsCharBoundary};
+ghost use Rattle.xt_tree.specs.Built.{IsSound};
 ghost use Rattle.xt_tree.specs.Meaning.{items_in};
 ghost use Rattle.xt_tree.specs.Places.{marks_of, AreInPlace};
 ghost use Rattle.xt_read.specs.Progress.{body_of, state_of, all_marks};
@@ -11,9 +12,8 @@ ghost use Rattle.xt_read.specs.Faults.{reading_fault, IsBodyFault};
 use crate::reader::Reader;
 use crate::stage::Body;
 use crate::unread::Unread;
-use sqlite_items::Items;
 use std::alloc::Global;
-use xt_tree::Src;
+use xt_tree::Tape;
 
 /// Reads the text to its end, from the place where its body begins.
 fn read_tokens(alloc: Global, text: &str, from: usize, body: Body) -> Result<Reader, Unread>
@@ -22,6 +22,7 @@ fn read_tokens(alloc: Global, text: &str, from: usize, body: Body) -> Result<Rea
     requires fits { length text.now < 2 ^ 32 }
     ensures value { IfOk result (λ reader. Passes (begin (body_of body)) (drop from text.now) (state_of text.now reader) []) }
     ensures place { IfOk result (λ reader. AreInPlace text.now from (all_marks reader) (length text.now)) }
+    ensures sound { IfOk result (λ reader. IsSound reader.tape) }
     ensures fault { IfErr result (λ e. IfSome (reading_fault e) (IsBodyFault (body_of body) text.now from)) }
 {
     let mut reader = Reader::new(alloc, body);
@@ -36,12 +37,7 @@ fn read_tokens(alloc: Global, text: &str, from: usize, body: Body) -> Result<Rea
 }
 
 /// The items of a body, from the place where it begins.
-pub(crate) fn read_body(
-    alloc: Global,
-    text: &str,
-    from: usize,
-    body: Body,
-) -> Result<Items<Src>, Unread>
+pub(crate) fn read_body(alloc: Global, text: &str, from: usize, body: Body) -> Result<Tape, Unread>
     requires within { from ≤ length text.now }
     requires boundary { IsCharBoundary text.now from }
     requires fits { length text.now < 2 ^ 32 }
@@ -57,7 +53,7 @@ pub(crate) fn read_body(
         return Err(Unread::NotWellFormed { at: text.len() });
     }
     match reader.settle() {
-        Ok(()) => Ok(reader.into_items()),
+        Ok(()) => Ok(reader.into_tape()),
         Err(_) => Err(Unread::NoMemory),
     }
 }

@@ -3,7 +3,7 @@
 //! 4.1 and 4.3.1 to 4.3.3. Offsets are bytes of the file, from 0. The tokens are `xt_lex`'s; here is which of them may stand
 //! behind which: nesting, names of end-tags, two attributes of one name, levels, what stands at the top. Names are not
 //! resolved, and no value is made. Above, only `IsReading`, `IsFirstFault`, `HasContent` and the places of the marks are used.
-//! The tree takes memory; nothing else does but the names of a tag of many attributes.
+//! The items take memory; nothing else does but the attributes of one tag, and their names where there are many.
 #![tactic(auto)]
 
 mod advance;

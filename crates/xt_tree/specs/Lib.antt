@@ -1,5 +1,9 @@
+pub mod Built
 pub mod Items
+pub mod Leaves
+pub mod Levels
 pub mod Meaning
 pub mod Patches
 pub mod Places
+pub mod Rows
 pub mod Spans

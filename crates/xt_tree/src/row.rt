@@ -1,21 +1,23 @@
 //! Syntax items side by side. Who reads a tree goes from one to the next by `Row::split`; how a file's items are kept is
 //! hidden behind it.
-ghost use Rattle.std.specs.Prelude.{◌≡◌, [], ◌∷◌, List, ℕ, MatchOption, option_map, length, nat_eq};
+ghost use Rattle.std.specs.Prelude.{◌≡◌, ◌<◌, ◌≤◌, [], ◌∷◌, List, ℕ, MatchOption, option_map, length, drop, nat_eq, false};
 ghost use Rattle.std.specs.List.{slice_get};
+ghost use Rattle.xt_tree.specs.declared.entry.Entry.TheVariants as entry;
+ghost use Rattle.xt_tree.specs.Levels.{levels, tag_at, begins_attr, AreSized};
 ghost use Rattle.xt_tree.specs.Meaning.{item_of};
 ghost use Rattle.xt_tree.specs.Places.{marks_in, AreInPlace};
 ghost use Rattle.xt_tree.specs.Spans.{kids_of, IsClosed};
-ghost use Rattle.xt_tree.specs.Items.{item_in};
+ghost use Rattle.xt_tree.specs.Items.{head_in, item_in};
 
-use crate::attrs::Attrs;
-use crate::source::{Src, Tag};
+use crate::attrs::{Attrs, attrs_at};
+use crate::entry::Entry;
 use std::marker::Model;
 use xt_lex::Span;
 
 /// Items side by side, from one of them on.
 #[derive(Debug, Drop)]
 pub struct Row<'a> {
-    items: &'a [Src],
+    entries: &'a [Entry],
 }
 
 impl<'a> Model for Row<'a> {
@@ -29,7 +31,11 @@ impl<'a> Model for Row<'a> {
 
     ghost coded = { Prim.hlevel (codes, e.the_row.coded) };
 
-    ghost view = { λ s. s.items.now };
+    ghost use Rattle.xt_tree.specs.Levels.{levels, AreSized};
+
+    ghost view = { λ s. (levels s.entries.now).inner.items };
+
+    ghost invariant = { λ s. AreSized s.entries.now };
 }
 
 /// A start-tag, or an empty-element tag: its name, its attributes, and the whole.
@@ -60,48 +66,134 @@ pub enum Item<'a> {
     Gap(Span),
 }
 
-/// The item.
-fn shown<'a>(item: &'a Src) -> Item<'a>
-    ensures value { item_in result ≡ item.now }
+/// The entries behind so many.
+fn behind(entries: &[Entry], count: u32) -> &[Entry]
+    requires within { count ≤ length entries.now }
+    ensures value { result.now ≡ drop count entries.now }
 {
-    match item {
-        Src::Elem { head, kids, tail } => Item::Elem {
-            head: Head {
-                name: head.name,
-                attrs: Attrs::of(head.attrs.as_slice()),
-                span: head.span,
-                empty: head.empty,
-            },
-            kids: Row::of(kids.as_slice()),
-            tail: *tail,
+    &entries[count as usize..]
+}
+
+/// No items.
+fn no_items<'a>() -> Row<'a>
+    ensures value { result ≡ [] }
+{
+    Row { entries: &[] }
+}
+
+/// The items from the first of these entries on.
+pub(crate) fn row_at<'a>(entries: &'a [Entry]) -> Row<'a>
+    requires sized { AreSized entries.now }
+    ensures value { result ≡ (levels entries.now).inner.items }
+{
+    Row { entries }
+}
+
+/// Whether an attribute stands first.
+fn begins_attr(entries: &[Entry]) -> bool
+    ensures { result ≡ begins_attr entries.now }
+{
+    matches!(entries.split_first(), Some((Entry::Attr { .. }, _)))
+}
+
+/// The entries behind the attributes.
+fn past_attrs(entries: &[Entry]) -> &[Entry]
+    requires sized { AreSized entries.now }
+    ensures value { (levels result.now).inner ≡ (levels entries.now).inner }
+    ensures sized { AreSized result.now }
+    ensures past { begins_attr result.now ≡ false }
+{
+    let mut rest = entries;
+    while begins_attr(rest) {
+        rest = &rest[1..];
+    }
+    rest
+}
+
+/// The tag of an element.
+fn head_at<'a>(from: u32, to: u32, name_to: u32, empty: bool, entries: &'a [Entry]) -> Head<'a>
+    requires fits { from < to }
+    ensures value { head_in result ≡ tag_at from to name_to (levels entries.now).attrs empty }
+{
+    Head {
+        name: Span {
+            from: from + 1,
+            to: name_to,
         },
-        Src::Text(span) => Item::Text(*span),
-        Src::Ref(span) => Item::Ref(*span),
-        Src::Comment(span) => Item::Comment(*span),
-        Src::Pi(span) => Item::Pi(*span),
-        Src::Gap(span) => Item::Gap(*span),
+        attrs: attrs_at(name_to, entries),
+        span: Span { from, to },
+        empty,
     }
 }
 
-impl<'a> Row<'a> {
-    /// These items.
-    pub(crate) fn of(items: &'a [Src]) -> Row<'a>
-        ensures value { result ≡ items.now }
-    {
-        Row { items }
-    }
+/// An element, and what stands behind it.
+fn elem_at<'a>(
+    from: u32,
+    to: u32,
+    name_to: u32,
+    inside: u32,
+    inner: &'a [Entry],
+) -> (Item<'a>, Row<'a>)
+    requires sized { AreSized (entry.Elem from to name_to inside ∷ inner.now) }
+    ensures value { (levels (entry.Elem from to name_to inside ∷ inner.now)).inner.items ≡ item_in result.0 ∷ result.1 }
+{
+    let Some((end, rest)) = behind(inner, inside).split_first() else {
+        unreachable!();
+    };
+    let Entry::End {
+        from: end_from,
+        to: end_to,
+    } = *end
+    else {
+        unreachable!();
+    };
+    let tail = Some(Span {
+        from: end_from,
+        to: end_to,
+    });
+    let head = head_at(from, to, name_to, false, inner);
+    let kids = row_at(inner);
+    (Item::Elem { head, kids, tail }, row_at(rest))
+}
 
-    fn all(&self) -> &'a [Src]
-        ensures value { result.now ≡ self.now }
+/// An element that is its tag alone, and what stands behind it.
+fn empty_at<'a>(
+    from: u32,
+    to: u32,
+    name_to: u32,
+    attrs: u32,
+    inner: &'a [Entry],
+) -> (Item<'a>, Row<'a>)
+    requires sized { AreSized (entry.Empty from to name_to attrs ∷ inner.now) }
+    ensures value { (levels (entry.Empty from to name_to attrs ∷ inner.now)).inner.items ≡ item_in result.0 ∷ result.1 }
+{
+    let head = head_at(from, to, name_to, true, inner);
+    let kids = no_items();
+    let rest = row_at(behind(inner, attrs));
+    (
+        Item::Elem {
+            head,
+            kids,
+            tail: None,
+        },
+        rest,
+    )
+}
+
+impl<'a> Row<'a> {
+    fn entries(&self) -> &'a [Entry]
+        ensures value { self.now ≡ (levels result.now).inner.items }
+        ensures sized { AreSized result.now }
+        ensures past { begins_attr result.now ≡ false }
     {
-        self.items
+        past_attrs(self.entries)
     }
 
     /// The same items.
     pub fn again(&self) -> Row<'a>
         ensures value { result ≡ self.now }
     {
-        Row { items: self.items }
+        row_at(self.entries())
     }
 
     /// Whether there are none.
@@ -115,9 +207,32 @@ impl<'a> Row<'a> {
     pub fn split(&self) -> Option<(Item<'a>, Row<'a>)>
         ensures value { MatchOption result (self.now ≡ []) (λ found. self.now ≡ item_in found.0 ∷ found.1) }
     {
-        match self.all().split_first() {
-            Some((first, rest)) => Some((shown(first), Row { items: rest })),
-            None => None,
+        let entries = self.entries();
+        let Some((first, inner)) = entries.split_first() else {
+            return None;
+        };
+        match *first {
+            Entry::Elem {
+                from,
+                to,
+                name_to,
+                inside,
+            } => Some(elem_at(from, to, name_to, inside, inner)),
+            Entry::Empty {
+                from,
+                to,
+                name_to,
+                attrs,
+            } => Some(empty_at(from, to, name_to, attrs, inner)),
+            Entry::Text { from, to } => Some((Item::Text(Span { from, to }), row_at(inner))),
+            Entry::Ref { from, to } => Some((Item::Ref(Span { from, to }), row_at(inner))),
+            Entry::Comment { from, to } => {
+                Some((Item::Comment(Span { from, to }), row_at(inner)))
+            }
+            Entry::Pi { from, to } => Some((Item::Pi(Span { from, to }), row_at(inner))),
+            Entry::Gap { from, to } => Some((Item::Gap(Span { from, to }), row_at(inner))),
+            Entry::End { .. } => None,
+            Entry::Attr { .. } => None,
         }
     }
 
@@ -145,11 +260,11 @@ impl<'a> Item<'a> {
     {
         match self {
             Item::Elem { kids, .. } => kids.again(),
-            Item::Text(_) => Row::of(&[]),
-            Item::Ref(_) => Row::of(&[]),
-            Item::Comment(_) => Row::of(&[]),
-            Item::Pi(_) => Row::of(&[]),
-            Item::Gap(_) => Row::of(&[]),
+            Item::Text(_) => no_items(),
+            Item::Ref(_) => no_items(),
+            Item::Comment(_) => no_items(),
+            Item::Pi(_) => no_items(),
+            Item::Gap(_) => no_items(),
         }
     }
 

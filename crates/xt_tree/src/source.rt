@@ -19,11 +19,10 @@ pub struct Tag {
     pub empty: bool,
 }
 
-/// A syntax item of a file.
+/// A syntax item of a file, as contracts see it. No value of it is made: a file's items are kept as entries, in a `Tape`.
 #[derive(Debug, Drop)]
 pub enum Src {
-    /// An element: its tag, what it holds, and its end-tag where it has one. The end-tag stands first here since an item
-    /// then takes 88 bytes, and else 96.
+    /// An element: its tag, what it holds, and its end-tag where it has one.
     Elem {
         tail: Option<Span>,
         head: Tag,

@@ -14,8 +14,8 @@ use Rattle.ent_doc.specs.Steps.{Gives, GivesFault, HasPaths, element_in, some_no
 use Rattle.ent_doc.proofs.ElementLemmas.{element_gives, own_fails, room_fails, kids_fail}
 use Rattle.bk_info.proofs.Theorems.{element_is, element_paths, element_has_via, none_have_via}
 use Rattle.ent_doc.proofs.CutLemmas.{tag_cut, text_cut, comment_cut, pi_cut}
-use Rattle.ent_doc.proofs.ItemLemmas.{kids_in_place, of_element, of_text, of_comment, of_pi, items_step, items_fail, items_begin, items_end, count_step}
-use Rattle.ent_doc.proofs.PathLemmas.{element_has_paths, paths_begin, paths_step, paths_end}
+use Rattle.ent_doc.proofs.ItemLemmas.{kids_in_place, of_element, of_text, of_comment, of_pi, reference_gives, gap_gives, items_step, items_fail, items_begin, items_end, count_step}
+use Rattle.ent_doc.proofs.PathLemmas.{element_has_paths, reference_paths, gap_paths, paths_begin, paths_step, paths_end}
 use Rattle.ent_doc.proofs.ViaLemmas.{vias_step, same_via}
 use Rattle.ent_doc.proofs.tree.+tree.Goals as goal
 
@@ -101,6 +101,32 @@ node_of-returns-in_ok-element_node-in-Elem-clause-value t c rest =
 pub node_of-returns-in-Text-clause-fault : goal.node_of-returns-in-Text-clause-fault
 node_of-returns-in-Text-clause-fault t c =
     IfErr-weaker c.text_node.result _ _ (λ fault fails rest. of_text c.args.source.now.text.now (λ (items : Items). GivesFault c.args.source.now.file.now c.args.context.now items c.args.work.now.count (open_fault fault)) rest (item_in c.args.item.now) c.in-Text.span (ap item_in c.in-Text.is) (fails c.args.context.now rest)) c.text_node.ensures.fault
+
+pub node_of-returns-in-Text-clause-value : goal.node_of-returns-in-Text-clause-value
+node_of-returns-in-Text-clause-value t c =
+    IfOk-weaker c.text_node.result _ _ (λ node gives rest. of_text c.args.source.now.text.now (λ (items : Items). Gives c.args.source.now.file.now c.args.context.now items rest c.args.work.now.count c.text_node.new.work.count (some_node node)) rest (item_in c.args.item.now) c.in-Text.span (ap item_in c.in-Text.is) (gives c.args.context.now rest)) c.text_node.ensures.value
+
+pub node_of-returns-in_ok-comment_node-in-Comment-clause-value : goal.node_of-returns-in_ok-comment_node-in-Comment-clause-value
+node_of-returns-in_ok-comment_node-in-Comment-clause-value t c rest =
+    of_comment c.args.source.now.text.now (λ (items : Items). Gives c.args.source.now.file.now c.args.context.now items rest c.args.work.now.count c.comment_node.new.work.count (c.in_ok-comment_node-in-Comment.field-0 ∷ [])) rest (item_in c.args.item.now) c.in-Comment.span (ap item_in c.in-Comment.is)
+    (c.in_ok-comment_node-in-Comment.ensures.value c.args.context.now rest)
+
+pub node_of-returns-in_ok-pi_node-in-Pi-clause-value : goal.node_of-returns-in_ok-pi_node-in-Pi-clause-value
+node_of-returns-in_ok-pi_node-in-Pi-clause-value t c rest =
+    of_pi c.args.source.now.text.now (λ (items : Items). Gives c.args.source.now.file.now c.args.context.now items rest c.args.work.now.count c.pi_node.new.work.count (c.in_ok-pi_node-in-Pi.field-0 ∷ [])) rest (item_in c.args.item.now) c.in-Pi.span (ap item_in c.in-Pi.is)
+    (c.in_ok-pi_node-in-Pi.ensures.value c.args.context.now rest)
+
+pub node_of-returns-in-Ref-clause-value : goal.node_of-returns-in-Ref-clause-value
+node_of-returns-in-Ref-clause-value t c rest = reference_gives c.args.source.now.text.now c.args.source.now.file.now c.args.context.now rest (item_in c.args.item.now) c.in-Ref.field-0 c.args.work.now.count (ap item_in c.in-Ref.is)
+
+pub node_of-returns-in-Ref-clause-paths : goal.node_of-returns-in-Ref-clause-paths
+node_of-returns-in-Ref-clause-paths t c rest outer index same = reference_paths c.args.source.now.text.now rest (item_in c.args.item.now) c.in-Ref.field-0 outer index (ap item_in c.in-Ref.is)
+
+pub node_of-returns-in-Gap-clause-value : goal.node_of-returns-in-Gap-clause-value
+node_of-returns-in-Gap-clause-value t c rest = gap_gives c.args.source.now.text.now c.args.source.now.file.now c.args.context.now rest (item_in c.args.item.now) c.in-Gap.field-0 c.args.work.now.count (ap item_in c.in-Gap.is)
+
+pub node_of-returns-in-Gap-clause-paths : goal.node_of-returns-in-Gap-clause-paths
+node_of-returns-in-Gap-clause-paths t c rest outer index same = gap_paths c.args.source.now.text.now rest (item_in c.args.item.now) c.in-Gap.field-0 outer index (ap item_in c.in-Gap.is)
 
 pub nodes_of-loop-item-init : goal.nodes_of-loop-item-init
 nodes_of-loop-item-init t c = rw c.again-left.ensures.value (record {

@@ -1,8 +1,8 @@
-use Rattle.std.proofs.Common.{arith, refl, ap}
+use Rattle.std.proofs.Common.{arith, refl, ap, ◌∙◌, List, ℕ}
 use Rattle.xt_tree.specs.Items.{head_in, item_in}
-use Rattle.xt_tree.specs.Meaning.{items_in}
+use Rattle.xt_tree.specs.Meaning.{at_span, items_in}
 use Rattle.xt_tree.proofs.Theorems.{kids_fewer, item_fewer}
-use Rattle.xt_read.proofs.ItemContent.{first_item, items_more, items_fail, items_done, element_placed, element_spelled, element_tested, element_fails, text_gives, comment_gives, pi_gives}
+use Rattle.xt_read.proofs.ItemContent.{first_item, items_more, items_fail, items_done, element_placed, element_spelled, element_tested, element_fails, text_gives, comment_gives, pi_gives, reference_gives, gap_gives}
 use Rattle.xt_read.proofs.content.+content.Goals as goal
 
 pub items_have_content-item_has_content-requires : goal.items_have_content-item_has_content-requires
@@ -56,3 +56,14 @@ item_has_content-returns-in-Comment t c = comment_gives c.args.text.now (item_in
 
 pub item_has_content-returns-in-Pi : goal.item_has_content-returns-in-Pi
 item_has_content-returns-in-Pi t c = pi_gives c.args.text.now (item_in c.args.item.now) c.in-Pi.field-0 (ap item_in c.in-Pi.is) c.requires.1.1.1
+
+pub item_has_content-tag_has_values-requires : goal.item_has_content-tag_has_values-requires
+item_has_content-tag_has_values-requires t c = record {
+  tag = (element_placed c.args.text.now (item_in c.args.item.now) (head_in c.in-Elem.head) c.in-Elem.kids c.in-Elem.kids c.in-Elem.tail (ap item_in c.in-Elem.is) refl c.requires.1.1.0).0;
+}
+
+pub item_has_content-returns-in-Gap : goal.item_has_content-returns-in-Gap
+item_has_content-returns-in-Gap t c = gap_gives c.args.text.now c.bytes_at.result.now (item_in c.args.item.now) c.in-Gap.span c.is_doctype.result (ap item_in c.in-Gap.is) (c.bytes_at.ensures ∙ ap (λ (b : List ℕ). at_span b c.in-Gap.span) c.as_bytes.ensures.value) c.is_doctype.ensures
+
+pub item_has_content-returns-in-Ref : goal.item_has_content-returns-in-Ref
+item_has_content-returns-in-Ref t c = reference_gives c.args.text.now (item_in c.args.item.now) c.in-Ref.field-0 (ap item_in c.in-Ref.is)

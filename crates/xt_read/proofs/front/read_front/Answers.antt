@@ -13,14 +13,14 @@ returns-in-Err-clause-fault c =
     subst (λ (e : Unread). IfSome (reading_fault e) (IsMarkupFault c.args.role text)) (sym c.in-Err.ensures.fault.0)
     (subst (IsForeign (form_of c.args.role)) (mark_dropped text c.mark_len-mark.result c.mark_len-mark.ensures.value) c.in-Err.ensures.fault.1)
 
-pub returns-in-Ok-gaps_of-clause-value : goal.returns-in-Ok-gaps_of-clause-value
-returns-in-Ok-gaps_of-clause-value c =
+pub returns-clause-value : goal.returns-clause-value
+returns-clause-value c =
     let text = c.args.text.now in
-    c.in-Ok-gaps_of.ensures.value text ∙ gaps_are c.args.role text c.mark_len-mark.result c.in-Ok.declared c.mark_len-mark.ensures.value c.in-Ok.ensures.value
+    gaps_are c.args.role text c.mark_len-mark.result c.in-Ok.declared c.mark_len-mark.ensures.value c.in-Ok.ensures.value
     ∙ ap (gaps_to text) (sym c.front_len.ensures)
 
-pub returns-in-Ok-gaps_of-clause-opens : goal.returns-in-Ok-gaps_of-clause-opens
-returns-in-Ok-gaps_of-clause-opens c =
+pub returns-clause-opens : goal.returns-clause-opens
+returns-clause-opens c =
     let text = c.args.text.now in
     subst (HasBodyAt (form_of c.args.role) text) (sym c.front_len.ensures)
     (has_body c.args.role text c.mark_len-mark.result c.in-Ok.declared c.mark_len-mark.ensures.value c.in-Ok.ensures.value)

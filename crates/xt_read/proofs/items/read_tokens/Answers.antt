@@ -16,6 +16,7 @@ loop-at-init c =
       within = c.requires.within;
       boundary = c.requires.boundary;
       place = subst (λ (m : List Mark). AreInPlace text c.args.from m c.args.from) (sym c.new-reader.ensures.marks) refl;
+      sound = c.new-reader.ensures.sound;
       passes = subst (λ (s : State). Passes first rest s rest) (sym (c.new-reader.ensures.value text)) (here first rest);
     }
 
@@ -38,6 +39,7 @@ loop-at-preserved c =
       within = c.in-Ok.ensures.on.1;
       boundary = c.in-Ok.ensures.on.2;
       place = c.in-Ok.ensures.place c.args.from c.loop-at.invariant.place;
+      sound = c.in-Ok.ensures.sound;
       passes = goes_on (begin (body_of c.args.body)) (state_of text c.loop-at.reader) (state_of text c.advances.new.self) (drop c.args.from text) text c.loop-at.at c.in-Ok.to tok is size steps c.loop-at.invariant.passes;
     }
 

@@ -1,5 +1,6 @@
 use Rattle.std.proofs.Common.{◌-◌, ◌≤◌, length, drop}
 use Rattle.std.specs.Str.{IsCharBoundary}
+use Rattle.xt_tree.specs.Built.{IsSound}
 use Rattle.xt_tree.specs.Places.{AreInPlace}
 use Rattle.xt_read.specs.Progress.{body_of, state_of, all_marks}
 use Rattle.xt_read.specs.Run.{begin, Passes}
@@ -12,6 +13,7 @@ invariant-loop-at l = record {
   within : l.at ≤ length l.text;
   boundary : IsCharBoundary l.text l.at;
   place : AreInPlace l.text l.fn.from (all_marks l.reader) l.at;
+  sound : IsSound l.reader.tape;
   passes : Passes (begin (body_of l.fn.body)) (drop l.fn.from l.text) (state_of l.text l.reader) (drop l.at l.text);
 }
 

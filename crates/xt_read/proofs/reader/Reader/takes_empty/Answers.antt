@@ -6,6 +6,7 @@ use Rattle.xt_tree.specs.Meaning.{at_span}
 use Rattle.xt_read.specs.Progress.{Gives, names_at, all_marks, state_of}
 use Rattle.xt_read.specs.Run.{empty_tok}
 use Rattle.xt_read.proofs.TokenSteps.{empty_ahead, empty_tok_is, takes_by, tag_placed, cut_behind}
+use Rattle.xt_read.proofs.TagShapes.{tag_shaped}
 use Rattle.xt_read.proofs.reader.Reader.takes_empty.Goals as goal
 
 pub read_tag-requires-clause-ahead : goal.read_tag-requires-clause-ahead
@@ -25,3 +26,6 @@ returns-in-Ok-clause-value c =
 pub returns-in-Ok-clause-place : goal.returns-in-Ok-clause-place
 returns-in-Ok-clause-place c = on_ok_weaker c.holds_empty.result (λ is from placed.
     tag_placed c.args.text.now from c.args.token.span.from c.args.token.span.to (all_marks c.args.self.now) (all_marks c.holds_empty.new.self) c.in-Ok.head placed c.in-Ok.ensures.value.1 (ap (λ (s : Span). s.to) c.in-Ok.ensures.value.0) is) c.holds_empty.ensures.marks
+
+pub holds_empty-requires-clause-shaped : goal.holds_empty-requires-clause-shaped
+holds_empty-requires-clause-shaped c = tag_shaped c.args.text.now c.args.token.span.from c.in-Ok.head c.in-Ok.ensures.value.1

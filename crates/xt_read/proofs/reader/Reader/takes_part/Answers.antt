@@ -7,7 +7,7 @@ use Rattle.xt_read.proofs.TokenSteps.{piece_is, takes_by, text_placed, joins}
 use Rattle.xt_read.proofs.reader.Reader.takes_part.Goals as goal
 
 pub holds_part-requires : goal.holds_part-requires
-holds_part-requires c = let ordered : c.args.token.span.from ≤ c.args.token.span.to = omega (arith, c.requires.token.some) in record { joins = joins c.args.text.now c.requires.place.0 c.args.self.now c.args.token.span c.requires.place.1 ordered }
+holds_part-requires c = let ordered : c.args.token.span.from ≤ c.args.token.span.to = omega (arith, c.requires.token.some) in record { joins = joins c.args.text.now c.requires.place.0 c.args.self.now c.args.token.span c.requires.place.1 ordered; sound = c.requires.sound }
 
 pub returns-clause-value : goal.returns-clause-value
 returns-clause-value c =
