@@ -64,7 +64,12 @@ fn text_span_at(items: &Row<'_>, path: &[u32]) -> Result<Span, Refusal>
 }
 
 /// The text item at a place.
-fn find_text(alloc: Global, bytes: &[u8], items: &Row<'_>, place: &[u32]) -> Result<TextAt, EditFault>
+fn find_text(
+    alloc: Global,
+    bytes: &[u8],
+    items: &Row<'_>,
+    place: &[u32],
+) -> Result<TextAt, EditFault>
     requires few { IsNarrow most_file_bytes (items_in bytes.now items.now) }
     ensures value { IfOk result (λ t. IsAt (items_in bytes.now items.now) place.now t.path.items (leaf_item text_item (at_span bytes.now t.span))) }
     ensures fault { IfErr result (IsNoText (items_in bytes.now items.now) place.now) }
@@ -216,7 +221,12 @@ fn edited(
 }
 
 /// The bytes of a document with an edit.
-fn edited_by(alloc: Global, bytes: &[u8], items: &Row<'_>, edit: &Edit) -> Result<Vec<u8>, EditFault>
+fn edited_by(
+    alloc: Global,
+    bytes: &[u8],
+    items: &Row<'_>,
+    edit: &Edit,
+) -> Result<Vec<u8>, EditFault>
     requires current { (root : List ℕ) × Opens root bytes.now (items_in bytes.now items.now) }
     requires place { AreInPlace bytes.now 0 (marks_of items.now) (length bytes.now) }
     ensures value { IfOk result (λ out. (root : List ℕ) → Opens root bytes.now (items_in bytes.now items.now) → IsEditOf root (items_in bytes.now items.now) (edit_of edit.now) out.items) }

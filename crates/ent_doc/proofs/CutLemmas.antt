@@ -1,5 +1,5 @@
 -- The spans of a document's tags and leaves cut no character, so what stands at them may be cut out.
-use Rattle.std.proofs.Common.{◌≡◌, ◌∙◌, ℕ, ◌+◌, ◌-◌, ◌<◌, ◌≤◌, List, [], ◌∷◌, ◌++◌, length, take, drop, get_or, refl, sym, ap, subst, arith, append_assoc}
+use Rattle.std.proofs.Common.{◌≡◌, ◌∙◌, ℕ, ◌+◌, ◌-◌, ◌<◌, ◌≤◌, List, [], ◌∷◌, ◌++◌, length, drop, get_or, sym, ap, subst, arith, append_assoc}
 use Rattle.std.proofs.lemmas.List.{length-append, length-take, length-drop, take-append-drop, get_or_append_left, get_or-drop}
 use Rattle.std.proofs.lemmas.Str.{IsUtf8-drop, IsCharBoundary-start, IsCharBoundary-from_take, IsCharBoundary-from_rest}
 use Rattle.std.specs.List.{AllByRecursion}
@@ -7,7 +7,7 @@ use Rattle.std.specs.Str.{IsUtf8, IsCharBoundary}
 use Rattle.xt_spec.specs.Markup.{IsComment, IsPi}
 use Rattle.xt_spec.specs.Tag.{Attribute, attribute_text, IsAttribute, IsAttValue}
 use Rattle.xt_spec.specs.Text.{IsTextItem}
-use Rattle.xt_spec.specs.Token.{TokenKind, comment, pi, Spells}
+use Rattle.xt_spec.specs.Token.{comment, pi}
 use Rattle.xt_spec.specs.Tree.{nil, before}
 use Rattle.xt_lex.specs.declared.attribute.AttrSrc.{AttrSrc}
 use Rattle.xt_lex.specs.declared.token.Span.{Span}

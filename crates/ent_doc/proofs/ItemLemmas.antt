@@ -1,14 +1,14 @@
 -- What an item of the code gives, and items in a row.
-use Rattle.std.proofs.Common.{◌≡◌, ◌∙◌, ℕ, ◌<◌, ◌≤◌, ◌+◌, List, [], ◌∷◌, ◌++◌, length, refl, sym, ap, subst, arith, length-append, Option, option_map, Result, Ok, Err}
+use Rattle.std.proofs.Common.{◌≡◌, ◌∙◌, ℕ, ◌+◌, List, [], ◌∷◌, ◌++◌, refl, sym, ap, subst, arith, Option, option_map, Result, Ok, Err}
 use Rattle.xt_spec.specs.Content.{HasContent}
-use Rattle.xt_spec.specs.Tree.{Items, Item, text_item, reference_item, comment_item, pi_item, gap, nil, element, leaf, before}
+use Rattle.xt_spec.specs.Tree.{Items, Item, text_item, comment_item, pi_item, nil, element, leaf, before}
 use Rattle.xt_lex.specs.declared.token.Span.{Span}
 use Rattle.xt_tree.specs.declared.source.Tag.{Tag as TagSrc}
 use Rattle.xt_tree.specs.declared.source.Src.{Src}
 use Rattle.xt_tree.specs.declared.source.Src.TheVariants as src
 use Rattle.xt_tree.specs.Meaning.{at_span, item_of, items_in}
-use Rattle.xt_tree.specs.Places.{Mark, tag_mark, marks_in, marks_of, tail_marks}
-use Rattle.xt_tree.proofs.Theorems.{element_marks, element_is, text_is, reference_is, comment_is, pi_is, gap_is}
+use Rattle.xt_tree.specs.Places.{tag_mark, marks_in, marks_of}
+use Rattle.xt_tree.proofs.Theorems.{element_is, text_is, reference_is, comment_is, pi_is, gap_is}
 use Rattle.xt_read.specs.ContentTest.{ArePlaced}
 use Rattle.xt_read.proofs.Theorems.{element_placed}
 use Rattle.bk_spec.specs.Node.{Nodes, node_count}

@@ -90,13 +90,7 @@ fn node_of(
 {
     match item {
         Item::Elem { head, kids, .. } => Ok(Some(element_node(
-            alloc,
-            source,
-            work,
-            context,
-            head,
-            kids,
-            address,
+            alloc, source, work, context, head, kids, address,
         )?)),
         Item::Text(span) => text_node(alloc, source, work, *span, address),
         Item::Comment(span) => Ok(Some(comment_node(alloc, source, work, *span, address)?)),

@@ -27,9 +27,9 @@ loop-item-preserved c =
     let count = c.loop-item.invariant.count in
     record {
       left = elim c.if-gives_node.branch [
-          | then-gives_node+else-wanted-le1 w ↦ rw w.wanted-is (left_counted c.args.bytes.now (items_in c.args.bytes.now c.args.level.now) c.args.number c.loop-item.index c.loop-item.left c.in-Some.rest (item_in c.in-Some.item) c.loop-item.wanted c.in-Some.ensures.value c.loop-item.invariant.left (sym c.gives_node.ensures.value ∙ w.if-gives_node.true) (omega arith))
-          | else-gives_node w ↦ rw w.wanted-is (left_over c.args.bytes.now (items_in c.args.bytes.now c.args.level.now) c.args.number c.loop-item.index c.loop-item.left c.in-Some.rest (item_in c.in-Some.item) c.loop-item.wanted c.in-Some.ensures.value c.loop-item.invariant.left (sym c.gives_node.ensures.value ∙ w.if-gives_node.false))
-        ];
+        | then-gives_node+else-wanted-le1 w ↦ rw w.wanted-is (left_counted c.args.bytes.now (items_in c.args.bytes.now c.args.level.now) c.args.number c.loop-item.index c.loop-item.left c.in-Some.rest (item_in c.in-Some.item) c.loop-item.wanted c.in-Some.ensures.value c.loop-item.invariant.left (sym c.gives_node.ensures.value ∙ w.if-gives_node.true) (omega arith))
+        | else-gives_node w ↦ rw w.wanted-is (left_over c.args.bytes.now (items_in c.args.bytes.now c.args.level.now) c.args.number c.loop-item.index c.loop-item.left c.in-Some.rest (item_in c.in-Some.item) c.loop-item.wanted c.in-Some.ensures.value c.loop-item.invariant.left (sym c.gives_node.ensures.value ∙ w.if-gives_node.false))
+      ];
       count = omega (arith, size, count);
     }
 
